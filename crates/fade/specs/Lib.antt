@@ -1,0 +1,4 @@
+pub mod Cases
+pub mod Exp
+pub mod Fade
+pub mod Laws
