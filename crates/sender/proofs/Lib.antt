@@ -1,0 +1,5 @@
+pub mod Multiplying
+pub mod Feeding
+pub mod Ranking
+pub mod Naming
+pub mod Cases

@@ -1,0 +1,20 @@
+-- The table of a hash is its six highest bits, and below 64.
+use mathlib.Core.Path.{_≡_, sym, ap, _∙_}
+use Prim.Native.Nat.{ℕ, zero, _*_, _/_, _^_, _<_}
+use native.Mathlib.Nat.{mul-comm, div-div-eq-div-mul, mul-div-mul-right, div-lt-iff-lt-mul}
+use native.Mathlib.Omega.{arith}
+use lib.Dec.{lit<}
+use lib.Pow.{shr-lt}
+use Rattle.sender.specs.Sender.{table-of-hash, table-of, hash-of}
+use Rattle.sender.specs.declared.Unit as unit
+use Rattle.sender.proofs.Feeding.{hash-below}
+
+pub table-is : (hash : ℕ) → table-of-hash hash ≡ hash / 2 ^ 58
+unfolding table-of-hash
+table-is hash =
+    ap (λ (n : ℕ). n / 2 ^ 53) (mul-comm 64 (hash / 2 ^ 11))
+    ∙ mul-div-mul-right (hash / 2 ^ 11) (2 ^ 47) (lit< tt)
+    ∙ div-div-eq-div-mul hash (2 ^ 11) (2 ^ 47)
+
+pub table-below : (u : unit.Unit) → table-of u < 64
+table-below u = rw table-is (shr-lt 6 58 (hash-below u))

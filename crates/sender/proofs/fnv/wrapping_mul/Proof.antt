@@ -1,0 +1,42 @@
+use Rattle.sender.proofs.Multiplying.{halves-fit, by-halves}
+use Prim.Native.Nat.{ℕ, _+_, _*_, _/_, _%_, _^_}
+use mathlib.Core.Path.{_≡_, refl, sym, ap, _∙_}
+use borrow.Author.Needs.{needs}
+use Rattle.sender.proofs.fnv.wrapping_mul.Statement.{statement}
+use Rattle.sender.proofs.fnv.wrapping_mul.Tie as tie
+use Rattle.sender.proofs.fnv.wrapping_mul.Reads as reads
+use Rattle.sender.proofs.fnv.wrapping_mul.Lts as lts
+use Rattle.std.proofs.num.wrapping_add_u64.Reads as wrapping-add-u64-reads
+
+mul-wrapping-add-u64 : tie.Need-mul-wrapping-add-u64
+mul-wrapping-add-u64 c = halves-fit (c .args .x / 4294967296) (c .args .y % 4294967296) (search needs) (search needs)
+
+mul-wrapping-add-u64-2 : tie.Need-mul-wrapping-add-u64-2
+mul-wrapping-add-u64-2 c = halves-fit (c .args .x % 4294967296) (c .args .y / 4294967296) (search needs) (search needs)
+
+wrapping-add-u64-requires : tie.Need-wrapping-add-u64-requires
+wrapping-add-u64-requires c κs = search needs
+
+mul-wrapping-add-u64-3 : tie.Need-mul-wrapping-add-u64-3
+mul-wrapping-add-u64-3 c = search needs
+
+mul-wrapping-add-u64-4 : tie.Need-mul-wrapping-add-u64-4
+mul-wrapping-add-u64-4 c = halves-fit (c .before .args .x % 4294967296) (c .before .args .y % 4294967296) (search needs) (search needs)
+
+wrapping-add-u64-requires-2 : tie.Need-wrapping-add-u64-requires-2
+wrapping-add-u64-requires-2 c κs = search needs
+
+returns : tie.Need-returns
+returns c = c .wrapping-add-u642 .ensures ∙ ap (λ (n : ℕ). (n % 4294967296 * 4294967296 + c .before .before .args .x % 4294967296 * (c .before .before .args .y % 4294967296)) % 2 ^ 64) (c .before .wrapping-add-u64 .ensures) ∙ by-halves (c .before .before .args .x) (c .before .before .args .y)
+
+pub wrapping-mul-spec : {M : Type 1} → statement M
+wrapping-mul-spec =
+    tie.close
+    (tie.spec
+    mul-wrapping-add-u64
+    mul-wrapping-add-u64-2
+    wrapping-add-u64-requires
+    mul-wrapping-add-u64-3
+    mul-wrapping-add-u64-4
+    wrapping-add-u64-requires-2
+    returns)

@@ -1,0 +1,17 @@
+use Rattle.sender.specs.Sender.{rank-of-hash}
+use borrow.Author.Needs.{needs}
+use Rattle.sender.proofs.hash.rank_of_hash.Statement.{statement}
+use Rattle.sender.proofs.hash.rank_of_hash.Tie as tie
+use Rattle.sender.proofs.hash.rank_of_hash.Reads as reads
+use Rattle.sender.proofs.hash.rank_of_hash.Lts as lts
+use Rattle.sender.proofs.hash.exact.Reads as exact-reads
+
+exact-requires : tie.Need-exact-requires
+exact-requires c κs = search needs
+
+returns : tie.Need-returns
+unfolding rank-of-hash
+returns c = simp (c .exact .ensures)
+
+pub rank-of-hash-spec : {M : Type 1} → statement M
+rank-of-hash-spec = tie.close (tie.spec exact-requires returns)

@@ -1,0 +1,21 @@
+use Rattle.sender.specs.Sender.{table-of-hash}
+use mathlib.Core.Path.{_≡_, refl, sym, ap, _∙_}
+use borrow.Author.Needs.{needs}
+use Rattle.sender.proofs.hash.table_of.Statement.{statement}
+use Rattle.sender.proofs.hash.table_of.Tie as tie
+use Rattle.sender.proofs.hash.table_of.Reads as reads
+use Rattle.sender.proofs.hash.table_of.Lts as lts
+use Rattle.sender.proofs.hash.hash_of.Reads as hash-of-reads
+use Rattle.sender.proofs.hash.table_of_hash.Reads as table-of-hash-reads
+
+hash-of-requires : tie.Need-hash-of-requires
+hash-of-requires c κs = search needs
+
+table-of-hash-requires : tie.Need-table-of-hash-requires
+table-of-hash-requires c κs = search needs
+
+returns : tie.Need-returns
+returns c = (c .table-of-hash .ensures .0 ∙ ap table-of-hash (c .before .hash-of .ensures), c .table-of-hash .ensures .1)
+
+pub table-of-spec : {M : Type 1} → statement M
+table-of-spec = tie.close (tie.spec hash-of-requires table-of-hash-requires returns)

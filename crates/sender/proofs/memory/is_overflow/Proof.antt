@@ -1,0 +1,39 @@
+use Rattle.sender.specs.Sender.{is-overflow}
+use borrow.Author.Needs.{needs}
+use Rattle.sender.proofs.memory.is_overflow.Statement.{statement}
+use Rattle.sender.proofs.memory.is_overflow.Tie as tie
+use Rattle.sender.proofs.memory.is_overflow.Reads as reads
+use Rattle.sender.proofs.memory.is_overflow.Lts as lts
+
+enum-told : tie.Need-enum-told
+enum-told c = search needs
+
+enum-told-2 : tie.Need-enum-told-2
+enum-told-2 c = search needs
+
+enum-told-3 : tie.Need-enum-told-3
+enum-told-3 c = search needs
+
+enum-told-4 : tie.Need-enum-told-4
+enum-told-4 c = search needs
+
+returns : tie.Need-returns
+unfolding is-overflow
+returns c = search needs
+
+returns-2 : tie.Need-returns-2
+unfolding is-overflow
+returns-2 c = search needs
+
+returns-3 : tie.Need-returns-3
+unfolding is-overflow
+returns-3 c = search needs
+
+returns-4 : tie.Need-returns-4
+unfolding is-overflow
+returns-4 c = search needs
+
+pub is-overflow-spec : {M : Type 1} → statement M
+is-overflow-spec =
+    tie.close
+    (tie.spec enum-told enum-told-2 enum-told-3 enum-told-4 returns returns-2 returns-3 returns-4)

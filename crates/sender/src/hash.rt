@@ -1,0 +1,62 @@
+// The hash of a unit, and what follows from it: its rank and its table.
+ghost use mathlib.Core.Path.{_≡_};
+ghost use Prim.Native.Nat.{_<_};
+ghost use Rattle.sender.specs.Sender as sender;
+use super::PublicKey;
+use super::Unit;
+use super::fnv::OFFSET_BASIS;
+use super::fnv::fed;
+use super::fnv::feed_word;
+
+fn hash_of_key(key: PublicKey) -> u64
+    ensures { λ r. ⌜ r ≡ sender.hash-of (Unit.Corroborated key) ⌝ }
+{
+    let kind = fed(OFFSET_BASIS, 0);
+    let a = feed_word(kind, key.a);
+    let b = feed_word(a, key.b);
+    let c = feed_word(b, key.c);
+    feed_word(c, key.d)
+}
+
+pub fn hash_of(unit: Unit) -> u64
+    ensures { λ r. ⌜ r ≡ sender.hash-of unit ⌝ }
+{
+    match unit {
+        Unit::Corroborated(key) => hash_of_key(key),
+        Unit::Group(group) => feed_word(fed(OFFSET_BASIS, 1), group.as_u64()),
+        Unit::NoAddress => fed(OFFSET_BASIS, 2),
+        Unit::Overflow => fed(OFFSET_BASIS, 3),
+    }
+}
+
+fn exact(n: u64) -> f64
+    requires { ⌜ n < 9007199254740992 ⌝ }
+    ensures { λ r. ⌜ r ≡ sender.exact n ⌝ }
+{
+    n as f64
+}
+
+pub fn rank_of_hash(hash: u64) -> f64
+    ensures { λ r. ⌜ r ≡ sender.rank-of-hash hash ⌝ }
+{
+    exact(hash / 2048) / 9007199254740992.0
+}
+
+// The six highest bits of the hash.
+pub fn table_of_hash(hash: u64) -> usize
+    ensures { λ r. ⌜ (r ≡ sender.table-of-hash hash) × (r < 64) ⌝ }
+{
+    (hash / 288230376151711744) as usize
+}
+
+pub fn rank(unit: Unit) -> f64
+    ensures { λ r. ⌜ r ≡ sender.rank unit ⌝ }
+{
+    rank_of_hash(hash_of(unit))
+}
+
+pub fn table_of(unit: Unit) -> usize
+    ensures { λ r. ⌜ (r ≡ sender.table-of unit) × (r < 64) ⌝ }
+{
+    table_of_hash(hash_of(unit))
+}

@@ -1,0 +1,45 @@
+use Rattle.store.specs.Store.{words-at}
+use mathlib.Core.Path.{_≡_, refl, sym, ap, _∙_}
+use borrow.Author.Needs.{needs}
+use Rattle.store.proofs.words_at.Statement.{statement}
+use Rattle.store.proofs.words_at.Tie as tie
+use Rattle.store.proofs.words_at.Reads as reads
+use Rattle.store.proofs.words_at.Lts as lts
+
+mul-row : tie.Need-mul-row
+mul-row c = search needs
+
+shared-slice-copy-out-row : tie.Need-shared-slice-copy-out-row
+shared-slice-copy-out-row c = search needs
+
+array-read-t9 : tie.Need-array-read-t9
+array-read-t9 c = search needs
+
+array-read-t12 : tie.Need-array-read-t12
+array-read-t12 c = search needs
+
+array-read-t15 : tie.Need-array-read-t15
+array-read-t15 c = search needs
+
+array-read-t18 : tie.Need-array-read-t18
+array-read-t18 c = search needs
+
+array-read-t21 : tie.Need-array-read-t21
+array-read-t21 c = search needs
+
+returns : tie.Need-returns
+unfolding words-at
+returns c = refl
+
+pub words-at-spec : {M : Type 1} → statement M
+words-at-spec =
+    tie.close
+    (tie.spec
+    mul-row
+    shared-slice-copy-out-row
+    array-read-t9
+    array-read-t12
+    array-read-t15
+    array-read-t18
+    array-read-t21
+    returns)

@@ -1,0 +1,210 @@
+-- Rows of lent memory: where a record's parts lie, finding, adding, and dropping the stale of one table. Definitions only.
+use Prim.Native.Nat.{ℕ, zero, suc, _+_, _-_, _/_, _%_, _^_}
+use mathlib.Core.Bool.{Bool, true, false, _&&_, cond, not}
+use mathlib.Core.List.{List, [], _∷_}
+use lib.Dec.{eqb, leb, ltb}
+use lib.ListN.{length, getD, set, replicate}
+use lib.Ieee as Ieee
+use lib.Ieee.{Float}
+use Rattle.flow.specs.Flow as flow
+use Rattle.flow.specs.Flow.{nothing, at, upto}
+use Rattle.flow.specs.declared.Use.{Use}
+use Rattle.sender.specs.declared.Name.{Name}
+use Rattle.sender.specs.declared.Words.{Words}
+use Rattle.sender.specs.Sender as sender
+
+abbrev pub dims : ℕ
+dims = flow.dims
+
+-- the lent lists: a record is one place of each
+pub record Rows : Type 0 where
+  pub hashes : List ℕ
+  pub units : List (List ℕ)
+  pub uses : List (List Float)
+
+abbrev pub rows : List ℕ → List (List ℕ) → List (List Float) → Rows
+rows hashes units uses = record { hashes = hashes; units = units; uses = uses }
+
+-- ---- a use as floats
+unfoldable pub part : List Float → ℕ → List Float
+part row from = upto (λ (d : ℕ). at row (from + d)) dims (replicate dims nothing)
+
+unfoldable pub picked : List Float → List Float → ℕ → Float
+picked a b i = cond (ltb i dims) (at a i) (at b (i - dims))
+
+unfoldable pub joined : List Float → List Float → List Float
+joined a b = upto (picked a b) (dims + dims) (replicate (dims + dims) nothing)
+
+abbrev pub mark : Bool → ℕ
+mark true = 1
+mark false = 0
+
+-- ---- a record
+abbrev pub unit-row : List (List ℕ) → ℕ → List ℕ
+unit-row units i = getD units i []
+
+-- the unit that a row names by its first five words; a counted source's row begins so too
+unfoldable pub words-at : List (List ℕ) → ℕ → Words
+words-at units i = record {
+  kind = getD (unit-row units i) 0 0;
+  a = getD (unit-row units i) 1 0;
+  b = getD (unit-row units i) 2 0;
+  c = getD (unit-row units i) 3 0;
+  d = getD (unit-row units i) 4 0;
+}
+
+unfoldable pub stamp-at : List (List ℕ) → ℕ → ℕ
+stamp-at units i = getD (unit-row units i) 5 0
+
+unfoldable pub use-at : List (List ℕ) → List (List Float) → ℕ → Use
+use-at units uses i = record {
+  attempted = part (getD uses i []) 0;
+  credit = part (getD uses i []) dims;
+  «at_ms» = getD (unit-row units i) 5 0;
+  fresh = not (eqb (getD (unit-row units i) 6 0) 0);
+}
+
+unfoldable pub units-put : List (List ℕ) → ℕ → Use → List (List ℕ)
+units-put units i u = set units i (set (set (unit-row units i) 5 (u .«at_ms»)) 6 (mark (u .fresh)))
+
+unfoldable pub uses-put : List (List Float) → ℕ → Use → List (List Float)
+uses-put uses i u = set uses i (joined (u .attempted) (u .credit))
+
+unfoldable pub added : Rows → ℕ → Name → Use → Rows
+added m i name u = record {
+  hashes = set (m .hashes) i (name .hash);
+  units = set (m .units) i (name .words .kind ∷ name .words .a ∷ name .words .b ∷ name .words .c ∷ name .words .d ∷ u .«at_ms» ∷ mark (u .fresh) ∷ []);
+  uses = set (m .uses) i (joined (u .attempted) (u .credit));
+}
+
+-- ---- find
+-- the same unit: raw words are compared
+unfoldable pub same : Words → Words → Bool
+same v w =
+    cond (eqb (v .kind) (w .kind))
+    (cond (eqb (v .a) (w .a)) (cond (eqb (v .b) (w .b)) (cond (eqb (v .c) (w .c)) (eqb (v .d) (w .d)) false) false) false) false
+
+-- the record at i is the unit's: hash and words; one whose hash word is not its unit's is not found
+unfoldable pub is-at : List ℕ → List (List ℕ) → Name → ℕ → Bool
+is-at hashes units name i = cond (eqb (getD hashes i 0) (name .hash)) (same (words-at units i) (name .words)) false
+
+-- the first of n at which p holds, else n
+unfoldable pub first : (ℕ → Bool) → ℕ → ℕ
+first p zero = zero
+first p (suc n) = cond (ltb (first p n) n) (first p n) (cond (p n) n (suc n))
+
+unfoldable pub find : List ℕ → List (List ℕ) → Name → ℕ → ℕ
+find hashes units name n = first (is-at hashes units name) n
+
+-- ---- retain
+-- a record stands in the table that its hash word names
+unfoldable pub table-at : List ℕ → ℕ → ℕ
+table-at hashes i = sender.table-of-hash (getD hashes i 0)
+
+abbrev pub since : ℕ → ℕ → ℕ
+since now at = now - at
+
+unfoldable pub is-stale : List ℕ → List (List ℕ) → ℕ → ℕ → ℕ → Bool
+is-stale hashes units table now i = cond (eqb (table-at hashes i) table) (ltb 8000 (since now (stamp-at units i))) false
+
+unfoldable pub freed : Rows → ℕ → Rows
+freed m i = record { hashes = set (m .hashes) i 0; units = set (m .units) i (replicate 7 0); uses = set (m .uses) i (replicate (dims + dims) nothing) }
+
+unfoldable pub moved : Rows → ℕ → ℕ → Rows
+moved m i j = record {
+  hashes = set (set (m .hashes) i 0) j (getD (m .hashes) i 0);
+  units = set (set (m .units) i (replicate 7 0)) j (unit-row (m .units) i);
+  uses = set (set (m .uses) i (replicate (dims + dims) nothing)) j (getD (m .uses) i []);
+}
+
+-- so many records, and the rows
+pub record Kept : Type 0 where
+  pub count : ℕ
+  pub rows : Rows
+
+abbrev pub kept : ℕ → Rows → Kept
+kept n m = record { count = n; rows = m }
+
+-- one record: freed where it is stale, else moved to the end of those kept
+abbrev pub either : Bool → Kept → Kept → Kept
+either true a b = a
+either false a b = b
+
+unfoldable pub retain-one : Kept → ℕ → ℕ → ℕ → Kept
+retain-one k table now i =
+    either (is-stale (k .rows .hashes) (k .rows .units) table now i) (kept (k .count) (freed (k .rows) i))
+    (either (ltb (k .count) i) (kept (k .count + 1) (moved (k .rows) i (k .count))) (kept (k .count + 1) (k .rows)))
+
+unfoldable pub retained : Rows → ℕ → ℕ → ℕ → Kept
+retained m table now zero = kept 0 m
+retained m table now (suc n) = retain-one (retained m table now n) table now n
+
+-- ---- counted sources
+abbrev pub counted-row : List (List ℕ) → ℕ → List ℕ
+counted-row rows i = getD rows i []
+
+unfoldable pub counted-is : List (List ℕ) → Words → ℕ → Bool
+counted-is rows w i = same (words-at rows i) w
+
+unfoldable pub counted-find : List (List ℕ) → Words → ℕ → ℕ
+counted-find rows w n = first (counted-is rows w) n
+
+unfoldable pub counted-up : List (List ℕ) → ℕ → ℕ → List (List ℕ)
+counted-up rows i cause = set rows i (set (counted-row rows i) (5 + cause) ((getD (counted-row rows i) (5 + cause) 0 + 1) % 2 ^ 64))
+
+unfoldable pub counted-add : List (List ℕ) → ℕ → Words → List (List ℕ)
+counted-add rows i w = set rows i (w .kind ∷ w .a ∷ w .b ∷ w .c ∷ w .d ∷ 0 ∷ 0 ∷ 0 ∷ [])
+
+-- so many sources, and the rows
+pub record Sources : Type 0 where
+  pub count : ℕ
+  pub rows : List (List ℕ)
+
+abbrev pub sources : ℕ → List (List ℕ) → Sources
+sources n rows = record { count = n; rows = rows }
+
+abbrev pub choose : Bool → Sources → Sources → Sources
+choose true a b = a
+choose false a b = b
+
+unfoldable pub count : List (List ℕ) → ℕ → Words → ℕ → Sources
+count rows n w cause =
+    choose (ltb (counted-find rows w n) n) (sources n (counted-up rows (counted-find rows w n) cause)) (sources (n + 1) (counted-up (counted-add rows n w) n cause))
+
+-- ---- leaving out the least counted
+unfoldable pub total-at : List (List ℕ) → ℕ → ℕ
+total-at rows i = ((getD (counted-row rows i) 5 0 + getD (counted-row rows i) 6 0) % 2 ^ 64 + getD (counted-row rows i) 7 0) % 2 ^ 64
+
+abbrev pub one-if : ℕ → Bool → ℕ
+one-if n true = n + 1
+one-if n false = n
+
+-- at how many of n p holds
+unfoldable pub number-of : (ℕ → Bool) → ℕ → ℕ
+number-of p zero = 0
+number-of p (suc n) = one-if (number-of p n) (p n)
+
+unfoldable pub below : List (List ℕ) → ℕ → ℕ → ℕ
+below rows x n = number-of (λ (i : ℕ). ltb (total-at rows i) x) n
+
+unfoldable pub within : List (List ℕ) → ℕ → ℕ → ℕ
+within rows x n = number-of (λ (i : ℕ). leb (total-at rows i) x) n
+
+unfoldable pub is-nth : List (List ℕ) → ℕ → ℕ → ℕ → Bool
+is-nth rows n k i = cond (leb (below rows (total-at rows i) n) k) (ltb k (within rows (total-at rows i) n)) false
+
+-- the total at index k of the n totals, ascending
+unfoldable pub nth : List (List ℕ) → ℕ → ℕ → ℕ
+nth rows n k = cond (ltb (first (is-nth rows n k) n) n) (total-at rows (first (is-nth rows n k) n)) 0
+
+unfoldable pub prune-one : Sources → ℕ → ℕ → Sources
+prune-one s k i =
+    choose (ltb k (total-at (s .rows) i)) (sources (s .count + 1) (set (set (s .rows) i (replicate 8 0)) (s .count) (counted-row (s .rows) i)))
+    (sources (s .count) (set (s .rows) i (replicate 8 0)))
+
+unfoldable pub prune : List (List ℕ) → ℕ → ℕ → Sources
+prune rows k zero = sources 0 rows
+prune rows k (suc n) = prune-one (prune rows k n) k n
+
+unfoldable pub pruned : Sources → Sources
+pruned s = choose (ltb (s .count) (length (s .rows))) s (prune (s .rows) (nth (s .rows) (s .count) (s .count / 4)) (s .count))

@@ -1,0 +1,474 @@
+// Rows of lent memory: a unit's record, and a counted source's.
+ghost use mathlib.Core.Path.{_≡_};
+ghost use Prim.Native.Nat.{_<_, _≤_, _+_, _^_};
+ghost use lib.ListN.{length};
+ghost use Rattle.store.specs.Store as store;
+use flow::DIMS;
+use flow::Use;
+use sender::Name;
+use sender::Words;
+
+// ---- a use as floats of memory: attempted per dimension, then credit per dimension
+fn part(row: [f64; 2 * DIMS], from: usize) -> [f64; DIMS]
+    requires { ⌜ from + store.dims ≤ store.dims + store.dims ⌝ }
+    ensures { λ r. ⌜ r ≡ store.part row from ⌝ }
+{
+    let mut out = [0.0; DIMS];
+    let mut d = 0;
+    while d < DIMS {
+        out[d] = row[from + d];
+        d += 1;
+    }
+    out
+}
+
+fn pick(a: [f64; DIMS], b: [f64; DIMS], i: usize) -> f64
+    requires { ⌜ i < store.dims + store.dims ⌝ }
+    ensures { λ r. ⌜ r ≡ store.picked a b i ⌝ }
+{
+    if i < DIMS { a[i] } else { b[i - DIMS] }
+}
+
+fn joined(a: [f64; DIMS], b: [f64; DIMS]) -> [f64; 2 * DIMS]
+    ensures { λ r. ⌜ r ≡ store.joined a b ⌝ }
+{
+    let mut out = [0.0; 2 * DIMS];
+    let mut i = 0;
+    while i < 2 * DIMS {
+        out[i] = pick(a, b, i);
+        i += 1;
+    }
+    out
+}
+
+fn mark(fresh: bool) -> u64
+    ensures { λ r. ⌜ r ≡ store.mark fresh ⌝ }
+{
+    if fresh { 1 } else { 0 }
+}
+
+// ---- a record
+pub fn words_at(units: &[[u64; 7]], i: usize) -> Words
+    requires { ⌜ i < length (now units) ⌝ }
+    ensures { λ r. ⌜ r ≡ store.words-at (now (units .entry)) i ⌝ }
+{
+    let row = units[i];
+    Words {
+        kind: row[0],
+        a: row[1],
+        b: row[2],
+        c: row[3],
+        d: row[4],
+    }
+}
+
+pub fn use_at(units: &[[u64; 7]], uses: &[[f64; 2 * DIMS]], i: usize) -> Use
+    requires { ⌜ i < length (now units) ⌝ }
+    requires { ⌜ i < length (now uses) ⌝ }
+    ensures { λ r. ⌜ r ≡ store.use-at (now (units .entry)) (now (uses .entry)) i ⌝ }
+{
+    let row = units[i];
+    let held = uses[i];
+    Use {
+        attempted: part(held, 0),
+        credit: part(held, DIMS),
+        at_ms: row[5],
+        fresh: row[6] != 0,
+    }
+}
+
+pub fn stamp_at(units: &[[u64; 7]], i: usize) -> u64
+    requires { ⌜ i < length (now units) ⌝ }
+    ensures { λ r. ⌜ r ≡ store.stamp-at (now (units .entry)) i ⌝ }
+{
+    units[i][5]
+}
+
+pub fn put_use(units: &mut [[u64; 7]], uses: &mut [[f64; 2 * DIMS]], i: usize, used: Use)
+    requires { ⌜ i < length (now units) ⌝ }
+    requires { ⌜ i < length (now uses) ⌝ }
+    ensures { λ r. ⌜ now (units .exit) ≡ store.units-put (now (units .entry)) i used ⌝ }
+    ensures { λ r. ⌜ now (uses .exit) ≡ store.uses-put (now (uses .entry)) i used ⌝ }
+{
+    let mut row = units[i];
+    row[5] = used.at_ms;
+    row[6] = mark(used.fresh);
+    units[i] = row;
+    let attempted = used.attempted;
+    let credit = used.credit;
+    uses[i] = joined(attempted, credit);
+}
+
+pub fn add(
+    hashes: &mut [u64],
+    units: &mut [[u64; 7]],
+    uses: &mut [[f64; 2 * DIMS]],
+    i: usize,
+    name: Name,
+    used: Use,
+)
+    requires { ⌜ i < length (now hashes) ⌝ }
+    requires { ⌜ i < length (now units) ⌝ }
+    requires { ⌜ i < length (now uses) ⌝ }
+    ensures { λ r. ⌜ store.rows (now (hashes .exit)) (now (units .exit)) (now (uses .exit)) ≡ store.added (store.rows (now (hashes .entry)) (now (units .entry)) (now (uses .entry))) i name used ⌝ }
+{
+    let w = name.words;
+    hashes[i] = name.hash;
+    units[i] = [w.kind, w.a, w.b, w.c, w.d, used.at_ms, mark(used.fresh)];
+    let attempted = used.attempted;
+    let credit = used.credit;
+    uses[i] = joined(attempted, credit);
+}
+
+// ---- find
+fn same(v: Words, w: Words) -> bool
+    ensures { λ r. ⌜ r ≡ store.same v w ⌝ }
+{
+    if v.kind != w.kind {
+        return false;
+    }
+    if v.a != w.a {
+        return false;
+    }
+    if v.b != w.b {
+        return false;
+    }
+    if v.c != w.c {
+        return false;
+    }
+    if v.d != w.d {
+        return false;
+    }
+    true
+}
+
+// Whether the record is the unit's: its hash first, so that a search reads 8 bytes a record.
+pub fn is_at(hashes: &[u64], units: &[[u64; 7]], i: usize, name: Name) -> bool
+    requires { ⌜ i < length (now hashes) ⌝ }
+    requires { ⌜ i < length (now units) ⌝ }
+    ensures { λ r. ⌜ r ≡ store.is-at (now (hashes .entry)) (now (units .entry)) name i ⌝ }
+{
+    if hashes[i] == name.hash {
+        let w = name.words;
+        return same(words_at(units, i), w);
+    }
+    false
+}
+
+// The first of n records that is the unit's, else n.
+pub fn find(hashes: &[u64], units: &[[u64; 7]], n: usize, name: Name) -> usize
+    requires { ⌜ n ≤ length (now hashes) ⌝ }
+    requires { ⌜ n ≤ length (now units) ⌝ }
+    ensures { λ r. ⌜ r ≡ store.find (now (hashes .entry)) (now (units .entry)) name n ⌝ }
+{
+    let mut i = 0;
+    while i < n {
+        if is_at(hashes, units, i, name) {
+            return i;
+        }
+        i += 1;
+    }
+    n
+}
+
+// ---- retain: for one table, in one pass
+pub fn table_at(hashes: &[u64], i: usize) -> usize
+    requires { ⌜ i < length (now hashes) ⌝ }
+    ensures { λ r. ⌜ r ≡ store.table-at (now (hashes .entry)) i ⌝ }
+{
+    sender::table_of_hash(hashes[i])
+}
+
+fn since(now: u64, at: u64) -> u64
+    ensures { λ r. ⌜ r ≡ store.since now at ⌝ }
+{
+    if at < now { now - at } else { 0 }
+}
+
+fn is_stale(hashes: &[u64], units: &[[u64; 7]], i: usize, table: usize, at_ms: u64) -> bool
+    requires { ⌜ i < length (now hashes) ⌝ }
+    requires { ⌜ i < length (now units) ⌝ }
+    ensures { λ r. ⌜ r ≡ store.is-stale (now (hashes .entry)) (now (units .entry)) table «at_ms» i ⌝ }
+{
+    if table_at(hashes, i) == table {
+        8000 < since(at_ms, stamp_at(units, i))
+    } else {
+        false
+    }
+}
+
+// The record at i is moved to j, and i freed.
+fn moved(
+    hashes: &mut [u64],
+    units: &mut [[u64; 7]],
+    uses: &mut [[f64; 2 * DIMS]],
+    i: usize,
+    j: usize,
+)
+    requires { ⌜ i < length (now hashes) ⌝ }
+    requires { ⌜ i < length (now units) ⌝ }
+    requires { ⌜ i < length (now uses) ⌝ }
+    requires { ⌜ j ≤ i ⌝ }
+    ensures { λ r. ⌜ store.rows (now (hashes .exit)) (now (units .exit)) (now (uses .exit)) ≡ store.moved (store.rows (now (hashes .entry)) (now (units .entry)) (now (uses .entry))) i j ⌝ }
+{
+    let hash = hashes[i];
+    let row = units[i];
+    let held = uses[i];
+    hashes[i] = 0;
+    units[i] = [0u64; 7];
+    uses[i] = [0.0; 2 * DIMS];
+    hashes[j] = hash;
+    units[j] = row;
+    uses[j] = held;
+}
+
+fn freed(hashes: &mut [u64], units: &mut [[u64; 7]], uses: &mut [[f64; 2 * DIMS]], i: usize)
+    requires { ⌜ i < length (now hashes) ⌝ }
+    requires { ⌜ i < length (now units) ⌝ }
+    requires { ⌜ i < length (now uses) ⌝ }
+    ensures { λ r. ⌜ store.rows (now (hashes .exit)) (now (units .exit)) (now (uses .exit)) ≡ store.freed (store.rows (now (hashes .entry)) (now (units .entry)) (now (uses .entry))) i ⌝ }
+{
+    hashes[i] = 0;
+    units[i] = [0u64; 7];
+    uses[i] = [0.0; 2 * DIMS];
+}
+
+// The record at i: freed where it is stale, else moved to j, the end of those kept.
+fn retain_one(
+    hashes: &mut [u64],
+    units: &mut [[u64; 7]],
+    uses: &mut [[f64; 2 * DIMS]],
+    i: usize,
+    j: usize,
+    table: usize,
+    at_ms: u64,
+) -> usize
+    requires { ⌜ i < length (now hashes) ⌝ }
+    requires { ⌜ i < length (now units) ⌝ }
+    requires { ⌜ i < length (now uses) ⌝ }
+    requires { ⌜ j ≤ i ⌝ }
+    ensures { λ r. ⌜ store.kept r (store.rows (now (hashes .exit)) (now (units .exit)) (now (uses .exit))) ≡ store.retain-one (store.kept j (store.rows (now (hashes .entry)) (now (units .entry)) (now (uses .entry)))) table «at_ms» i ⌝ }
+    ensures { λ r. ⌜ r ≤ i + 1 ⌝ }
+{
+    if is_stale(hashes, units, i, table, at_ms) {
+        freed(hashes, units, uses, i);
+        return j;
+    }
+    if j < i {
+        moved(hashes, units, uses, i, j);
+        return j + 1;
+    }
+    j + 1
+}
+
+pub fn retain(
+    hashes: &mut [u64],
+    units: &mut [[u64; 7]],
+    uses: &mut [[f64; 2 * DIMS]],
+    n: usize,
+    table: usize,
+    at_ms: u64,
+) -> usize
+    requires { ⌜ n ≤ length (now hashes) ⌝ }
+    requires { ⌜ n ≤ length (now units) ⌝ }
+    requires { ⌜ n ≤ length (now uses) ⌝ }
+    ensures { λ r. ⌜ store.kept r (store.rows (now (hashes .exit)) (now (units .exit)) (now (uses .exit))) ≡ store.retained (store.rows (now (hashes .entry)) (now (units .entry)) (now (uses .entry))) table «at_ms» n ⌝ }
+    ensures { λ r. ⌜ r ≤ n ⌝ }
+{
+    let mut i = 0;
+    let mut j = 0;
+    while i < n {
+        j = retain_one(hashes, units, uses, i, j, table, at_ms);
+        i += 1;
+    }
+    j
+}
+
+// ---- counted sources: kind, four words, three counts
+fn counted_words(counted: &[[u64; 8]], i: usize) -> Words
+    requires { ⌜ i < length (now counted) ⌝ }
+    ensures { λ r. ⌜ r ≡ store.words-at (now (counted .entry)) i ⌝ }
+{
+    let row = counted[i];
+    Words {
+        kind: row[0],
+        a: row[1],
+        b: row[2],
+        c: row[3],
+        d: row[4],
+    }
+}
+
+fn counted_is(counted: &[[u64; 8]], i: usize, w: Words) -> bool
+    requires { ⌜ i < length (now counted) ⌝ }
+    ensures { λ r. ⌜ r ≡ store.counted-is (now (counted .entry)) w i ⌝ }
+{
+    same(counted_words(counted, i), w)
+}
+
+fn counted_find(counted: &[[u64; 8]], n: usize, w: Words) -> usize
+    requires { ⌜ n ≤ length (now counted) ⌝ }
+    ensures { λ r. ⌜ r ≡ store.counted-find (now (counted .entry)) w n ⌝ }
+{
+    let mut i = 0;
+    while i < n {
+        if counted_is(counted, i, w) {
+            return i;
+        }
+        i += 1;
+    }
+    n
+}
+
+// One more for a cause.
+fn counted_up(counted: &mut [[u64; 8]], i: usize, cause: usize)
+    requires { ⌜ i < length (now counted) ⌝ }
+    requires { ⌜ cause < 3 ⌝ }
+    ensures { λ r. ⌜ now (counted .exit) ≡ store.counted-up (now (counted .entry)) i cause ⌝ }
+{
+    let mut row = counted[i];
+    let k = 5 + cause;
+    row[k] = std::num::wrapping_add_u64(row[k], 1);
+    counted[i] = row;
+}
+
+fn counted_add(counted: &mut [[u64; 8]], i: usize, w: Words)
+    requires { ⌜ i < length (now counted) ⌝ }
+    ensures { λ r. ⌜ now (counted .exit) ≡ store.counted-add (now (counted .entry)) i w ⌝ }
+{
+    counted[i] = [w.kind, w.a, w.b, w.c, w.d, 0, 0, 0];
+}
+
+// Of n sources, the unit's count for a cause is one more; how many sources there are then.
+pub fn count(counted: &mut [[u64; 8]], n: usize, w: Words, cause: usize) -> usize
+    requires { ⌜ n < length (now counted) ⌝ }
+    requires { ⌜ cause < 3 ⌝ }
+    ensures { λ r. ⌜ store.sources r (now (counted .exit)) ≡ store.count (now (counted .entry)) n w cause ⌝ }
+    ensures { λ r. ⌜ r ≤ n + 1 ⌝ }
+{
+    let i = counted_find(counted, n, w);
+    if i < n {
+        counted_up(counted, i, cause);
+        return n;
+    }
+    counted_add(counted, n, w);
+    counted_up(counted, n, cause);
+    n + 1
+}
+
+// ---- leaving out the least counted
+
+pub fn total_at(counted: &[[u64; 8]], i: usize) -> u64
+    requires { ⌜ i < length (now counted) ⌝ }
+    ensures { λ r. ⌜ r ≡ store.total-at (now (counted .entry)) i ⌝ }
+{
+    let row = counted[i];
+    std::num::wrapping_add_u64(std::num::wrapping_add_u64(row[5], row[6]), row[7])
+}
+
+fn one_if(n: usize, yes: bool) -> usize
+    requires { ⌜ n + 1 < 2 ^ 64 ⌝ }
+    ensures { λ r. ⌜ r ≡ store.one-if n yes ⌝ }
+    ensures { λ r. ⌜ r ≤ n + 1 ⌝ }
+{
+    if yes { n + 1 } else { n }
+}
+
+// How many of n totals are below x.
+fn below(counted: &[[u64; 8]], n: usize, x: u64) -> usize
+    requires { ⌜ n ≤ length (now counted) ⌝ }
+    ensures { λ r. ⌜ r ≡ store.below (now (counted .entry)) x n ⌝ }
+{
+    let mut k = 0;
+    let mut i = 0;
+    while i < n {
+        k = one_if(k, total_at(counted, i) < x);
+        i += 1;
+    }
+    k
+}
+
+// And how many are x or below.
+fn within(counted: &[[u64; 8]], n: usize, x: u64) -> usize
+    requires { ⌜ n ≤ length (now counted) ⌝ }
+    ensures { λ r. ⌜ r ≡ store.within (now (counted .entry)) x n ⌝ }
+{
+    let mut k = 0;
+    let mut i = 0;
+    while i < n {
+        k = one_if(k, total_at(counted, i) <= x);
+        i += 1;
+    }
+    k
+}
+
+// Whether the total at i stands at index k of the ascending totals.
+fn is_nth(counted: &[[u64; 8]], n: usize, k: usize, i: usize) -> bool
+    requires { ⌜ n ≤ length (now counted) ⌝ }
+    requires { ⌜ i < n ⌝ }
+    ensures { λ r. ⌜ r ≡ store.is-nth (now (counted .entry)) n k i ⌝ }
+{
+    let x = total_at(counted, i);
+    if below(counted, n, x) <= k {
+        return k < within(counted, n, x);
+    }
+    false
+}
+
+fn nth(counted: &[[u64; 8]], n: usize, k: usize) -> u64
+    requires { ⌜ n ≤ length (now counted) ⌝ }
+    ensures { λ r. ⌜ r ≡ store.nth (now (counted .entry)) n k ⌝ }
+{
+    let mut i = 0;
+    while i < n {
+        if is_nth(counted, n, k, i) {
+            return total_at(counted, i);
+        }
+        i += 1;
+    }
+    0
+}
+
+fn prune_one(counted: &mut [[u64; 8]], i: usize, j: usize, k: u64) -> usize
+    requires { ⌜ i < length (now counted) ⌝ }
+    requires { ⌜ j ≤ i ⌝ }
+    ensures { λ r. ⌜ store.sources r (now (counted .exit)) ≡ store.prune-one (store.sources j (now (counted .entry))) k i ⌝ }
+    ensures { λ r. ⌜ r ≤ i + 1 ⌝ }
+{
+    let row = counted[i];
+    if k < total_at(counted, i) {
+        counted[i] = [0u64; 8];
+        counted[j] = row;
+        return j + 1;
+    }
+    counted[i] = [0u64; 8];
+    j
+}
+
+// Of n sources those above k stay, in their order; freed places become 0.
+fn prune(counted: &mut [[u64; 8]], n: usize, k: u64) -> usize
+    requires { ⌜ n ≤ length (now counted) ⌝ }
+    ensures { λ r. ⌜ store.sources r (now (counted .exit)) ≡ store.prune (now (counted .entry)) k n ⌝ }
+    ensures { λ r. ⌜ r ≤ n ⌝ }
+{
+    let mut i = 0;
+    let mut j = 0;
+    while i < n {
+        j = prune_one(counted, i, j, k);
+        i += 1;
+    }
+    j
+}
+
+// The spare row taken: the least counted are left out.
+pub fn pruned(counted: &mut [[u64; 8]], n: usize) -> usize
+    requires { ⌜ n ≤ length (now counted) ⌝ }
+    ensures { λ r. ⌜ store.sources r (now (counted .exit)) ≡ store.pruned (store.sources n (now (counted .entry))) ⌝ }
+    ensures { λ r. ⌜ r ≤ n ⌝ }
+{
+    if n < counted.len() {
+        return n;
+    }
+    let k = nth(counted, n, n / 4);
+    prune(counted, n, k)
+}
