@@ -1,18 +1,18 @@
 -- The rounded product of an entry of each table: positive, within 2 ^ -51 of the exponential, and falling. Assumes nothing.
-use mathlib.Core.Path.{_≡_, refl, sym, ap, ap₂, _∙_, subst}
-use mathlib.Core.Bool.{Bool, true, false, not}
-use Prim.Native.Nat.{ℕ, _+_, _*_, _/_, _%_, _^_, _≤_, _<_}
+use mathlib.Core.Path.{_≡_, sym, ap, _∙_, subst}
+use mathlib.Core.Bool.{true, false}
+use Prim.Native.Nat.{ℕ, suc, _+_, _-_, _*_, _/_, _%_, _^_, _≤_, _<_}
 use native.Mathlib.Nat.{le-refl, le-trans, le-of-eq, lt-of-le-of-lt, mul-left-comm, mul-mul-mul-comm, mul-one, one-mul, zero-mul, mul-pos, mul-le-mul, mul-le-mul-left, mul-lt-mul-of-pos-left, mod-add-div}
 use native.Mathlib.Omega.{arith}
 use lib.IntN.{pos}
-use lib.Dec.{T, leb, lit≤, lit<, ltb→lt, lt→ltb, leb→le, nleb→lt}
+use lib.Dec.{T, lit≤, lit<, ltb→lt, lt→ltb}
 use lib.Pow.{pow-add, pow-pos, pow-mono, pow-lt}
 use lib.Ieee.{Float, nan, inf, fin, binary64, prec, up, down, round, mul, lt}
 use lib.Ieee.Fits.{up-pos}
 use lib.Ieee.Order.{round-mono}
 use lib.Ieee.Scale.{normal-of-fraction, round-under}
 use lib.Ieee.Positive.{num, den, den-pos, positive, positive-finite, own-value, value-pos, mul-at, between}
-use Rattle.fade.specs.Laws.{Nearest, Close}
+use Rattle.fade.specs.Laws.{Nearest, Close, parts}
 use Rattle.fade.proofs.Rounding.{Near, round-near}
 use Rattle.fade.proofs.Rounded.{Normal, rounded-close}
 use Rattle.fade.proofs.Middle.{rounded-nearest}
@@ -61,15 +61,15 @@ both-least a b c d j k x y l =
 
 pub record Faded (d : ℕ) (z : Float) : Type 0 where
   pub above : T (positive z)
-  pub close : Close (2 ^ 51) d 2000 z
+  pub close : Close parts d 2000 z
 
 pub faded : (j k d : ℕ) (x y : Float) → j + k ≤ 1020 → Entry j 2000 (d % 2000) x → Entry k 1 (d / 2000) y → Faded d (mul binary64 x y)
 faded j k d x y l ex ey =
     record {
       above = subst (λ (w : Float). T (positive w)) (sym is) (rounds-positive a c C most least);
-      close = subst (λ (w : Float). Close (2 ^ 51) d 2000 w) (sym is)
-          (subst (λ (n : ℕ). Close (2 ^ 51) n 2000 (round binary64 false a c)) (mod-add-div d 2000)
-          (product-close 9007199254740991 2251799813685247 (d % 2000) (2000 * (d / 2000)) 2000 x y (round binary64 false a c) (lit< tt) (lit≤ tt) (lit≤ tt)
+      close = subst (λ (w : Float). Close parts d 2000 w) (sym is)
+          (subst (λ (n : ℕ). Close parts n 2000 (round binary64 false a c)) (mod-add-div d 2000)
+          (product-close (2 ^ prec binary64 - 1) (parts - 1) (d % 2000) (2000 * (d / 2000)) 2000 x y (round binary64 false a c) (lit< tt) (lit≤ tt) (lit≤ tt)
           (rounded-close (d % 2000) 2000 x (lit< tt) normal-x (ex .rounded))
           (close-factor (2 ^ 53) 2000 (d / 2000) 1 y (rounded-close (d / 2000) 1 y (lit< tt) normal-y (ey .rounded)))
           (rounds-near a c C most least)));
@@ -104,9 +104,9 @@ faded j k d x y l ex ey =
 
 -- ---- the fade falls strictly for as long as it is above 0
 pub during-falls : (d k : ℕ) (x y : Float) → 0 < k → Faded d x → Faded (d + k) y → T (lt y x)
-during-falls d k x y K fx fy = close-falls 2251799813685247 d k 2000 x y (lit< tt) (fx .above) (fy .above) (wide k K) (fx .close) (fy .close)
+during-falls d k x y K fx fy = close-falls (parts - 1) d k 2000 x y (lit< tt) (fx .above) (fy .above) (wide k K) (fx .close) (fy .close)
   where
-    wide : (k : ℕ) → 0 < k → 2251799813685249 * 2000 < 2251799813685247 * (2000 + k)
+    wide : (k : ℕ) → 0 < k → suc parts * 2000 < (parts - 1) * (2000 + k)
     wide k h = omega arith
 
 pub above-zero : (x : Float) → T (positive x) → T (lt (fin false 0 (pos 0)) x)

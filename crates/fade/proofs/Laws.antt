@@ -1,7 +1,7 @@
 -- What specs/Laws.antt states of the series and of the fade, from the tables' tests. Assumes nothing.
-use mathlib.Core.Path.{_≡_, refl, sym, subst}
-use mathlib.Core.Bool.{Bool, true, false, not, cond}
-use Prim.Native.Nat.{ℕ, _+_, _-_, _*_, _/_, _%_, _≤_, _<_}
+use mathlib.Core.Path.{_≡_, subst}
+use mathlib.Core.Bool.{false, not}
+use Prim.Native.Nat.{ℕ, _-_, _/_, _%_, _≤_, _<_}
 use native.Mathlib.Nat.{mod-lt}
 use native.Mathlib.Omega.{arith}
 use native.Mathlib.Decide.{decLe}
@@ -9,10 +9,10 @@ use borrow.Author.Tests.{lt-ltb, le-ltb}
 use lib.IntN.{pos}
 use lib.Dec.{T, ltb, lit≤, lit<}
 use lib.ListN.{getD}
-use lib.Ieee.{Float, fin, binary64, mul, lt, fits, isNan}
+use lib.Ieee.{fin, binary64, mul, lt, fits, isNan}
 use lib.Ieee.Fits.{cond-fits, mul-fits}
 use Rattle.fade.specs.Fade.{nearest, long, end, fade}
-use Rattle.fade.specs.Laws.{Series, Fading, Nearest}
+use Rattle.fade.specs.Laws.{Series, Fading}
 use Rattle.fade.proofs.Series.{capped, narrows}
 use Rattle.fade.proofs.Entries.{Entry, entry-at, positive-number}
 use Rattle.fade.proofs.Faded.{Faded, entry-nearest, faded, during-falls, above-zero}
@@ -36,7 +36,7 @@ short r h = entry-at A.least 2000 r (getD A.table r 0) (A.passes r h)
 far : (q : ℕ) → q < long → Entry B.least 1 q (nearest q 1)
 far q h = entry-at B.least 1 q (getD B.table q 0) (B.passes q h)
 
-pub row : (d : ℕ) → d < end → d / 2000 < long
+row : (d : ℕ) → d < end → d / 2000 < long
 row d h = omega arith
 
 -- ---- the fade

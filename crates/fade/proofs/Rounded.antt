@@ -1,19 +1,15 @@
 -- A double to which both ends of an enclosure round is within one part in 2 ^ 53 of the exponential. Assumes nothing.
-use mathlib.Core.Path.{_≡_, refl, sym, ap, ap₂, _∙_, subst}
-use mathlib.Core.Bool.{true, false}
-use Prim.Native.Nat.{ℕ, _+_, _-_, _*_, _/_, _^_, _≤_, _<_}
-use native.Mathlib.Nat.{le-refl, le-trans, le-of-eq, lt-of-lt-of-le, le-antisymm, add-comm, add-mul, mul-add, mul-comm, mul-assoc, mul-left-comm, mul-right-comm, mul-le-mul-left, mul-le-mul-right, le-of-mul-le-mul-right, lt-of-mul-lt-mul-right}
+use mathlib.Core.Path.{_≡_, sym, ap₂, _∙_, subst}
+use mathlib.Core.Bool.{false}
+use Prim.Native.Nat.{ℕ, _+_, _-_, _*_, _^_, _≤_, _<_}
+use native.Mathlib.Nat.{le-trans, le-of-eq, lt-of-lt-of-le, add-mul, mul-add, mul-comm, mul-assoc, mul-left-comm, mul-le-mul-left, mul-le-mul-right, le-of-mul-le-mul-right, lt-of-mul-lt-mul-right}
 use lib.Dec.{T}
-use lib.Ieee.{Float, nan, inf, fin, Format, binary64, prec, low, hid, size, round, le, fits, toBits, ofBits}
-use lib.Ieee.Fits.{round-fits}
-use lib.Ieee.Bits.{ofBits-toBits}
-use lib.Ieee.Nearest.{div-same}
-use lib.Ieee.Order.{round-mono}
+use lib.Ieee.{Float, Format, binary64, prec, low, round}
 use lib.Ieee.Scale.{grid, overflow, round-val, finite, round-under, normal-of-rounded}
-use lib.Ieee.Positive.{num, den, den-pos, positive, positive-finite, value→cross, le→cross, between, through}
+use lib.Ieee.Positive.{num, den, positive, positive-finite, value→cross}
 use Rattle.fade.specs.Exp.{top, bot, cap, Late}
 use Rattle.fade.specs.Laws.{Close}
-use Rattle.fade.proofs.Series.{bot-pos, top-pos, top-le-cap, rise, fall, late, capped}
+use Rattle.fade.proofs.Series.{bot-pos, top-pos, top-le-cap, late, capped}
 use Rattle.fade.proofs.Rounding.{Near, round-near}
 
 -- an enclosure bot / cap ≤ exp(-p / q) ≤ bot / top is so narrow that both of its ends round to x

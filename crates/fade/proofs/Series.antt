@@ -2,7 +2,7 @@
 -- bound stands above every sum. And p / q may be written with a common factor. Assumes nothing.
 use mathlib.Core.Path.{_≡_, refl, sym, ap, ap₂, _∙_, subst}
 use Prim.Native.Nat.{ℕ, zero, suc, _+_, _*_, _^_, _≤_, _<_}
-use native.Mathlib.Nat.{le-trans, le-of-eq, le-add-right, zero-lt-suc, add-zero, add-comm, add-suc, add-assoc, mul-add, add-mul, mul-comm, mul-assoc, mul-left-comm, mul-right-comm, mul-mul-mul-comm, mul-one, pow-zero, pow-suc, mul-pos, mul-le-mul-left, mul-le-mul-right, le-suc, lt-of-le-of-lt, lt-of-lt-of-le, mul-lt-mul-of-pos-right, mul-lt-mul-of-pos-left, lt-of-mul-lt-mul-right, one-le-pow, le-of-lt, lt-suc-self, mul-zero}
+use native.Mathlib.Nat.{le-trans, le-of-eq, le-add-right, zero-lt-suc, add-zero, add-comm, add-suc, add-assoc, mul-add, add-mul, mul-comm, mul-assoc, mul-left-comm, mul-right-comm, mul-mul-mul-comm, mul-one, pow-zero, pow-suc, mul-pos, mul-le-mul-left, mul-le-mul-right, le-suc, lt-of-le-of-lt, lt-of-lt-of-le, mul-lt-mul-of-pos-right, mul-lt-mul-of-pos-left, lt-of-mul-lt-mul-right, one-le-pow, lt-suc-self, mul-zero}
 use native.Mathlib.Omega.{arith}
 use lib.Ieee.Positive.{through}
 use Rattle.fade.specs.Exp.{top, bot, cap, Late}
@@ -15,7 +15,7 @@ bot-pos q (suc n) h = mul-pos (bot-pos q n h) (mul-pos h (zero-lt-suc n))
 pub top-pos : (p q n : ℕ) → 0 < q → 0 < top p q n
 unfolding top
 top-pos p q zero h = zero-lt-suc 0
-top-pos p q (suc n) h = le-trans (mul-pos (top-pos p q n h) (mul-pos h (zero-lt-suc n))) (le-add-right (top p q n * (q * suc n)) (p ^ suc n))
+top-pos p q (suc n) h = le-trans (mul-pos (top-pos p q n h) (mul-pos h (zero-lt-suc n))) (le-add-right _ _)
 
 pub top-le-cap : (p q n : ℕ) → top p q n ≤ cap p q n
 unfolding cap
@@ -26,7 +26,7 @@ rise-one : (p q n : ℕ) → top p q n * bot q (suc n) ≤ top p q (suc n) * bot
 unfolding top bot
 rise-one p q n =
     le-trans (le-of-eq (ap (λ (z : ℕ). top p q n * z) (mul-comm (bot q n) (q * suc n)) ∙ sym (mul-assoc (top p q n) (q * suc n) (bot q n))))
-    (mul-le-mul-right (bot q n) (le-add-right (top p q n * (q * suc n)) (p ^ suc n)))
+    (mul-le-mul-right (bot q n) (le-add-right _ _))
 
 pub later : (p q n : ℕ) → Late p q n → Late p q (suc n)
 later p q n h = le-trans h (mul-le-mul-left q (le-suc (suc n)))

@@ -1,5 +1,4 @@
 -- What is proved of the series, of the doubles `nearest` and of the fade: statements only; proofs/Laws.antt proves each record. Assumes nothing.
-use mathlib.Core.Path.{_≡_}
 use mathlib.Core.Bool.{not}
 use Prim.Native.Nat.{ℕ, _+_, _*_, _^_, _≤_, _<_}
 use lib.Dec.{T}
@@ -30,6 +29,10 @@ pub record Close (h p q : ℕ) (z : Float) : Type 0 where
   pub n : ℕ
   pub below : bot q n * den z * h ≤ top p q n * num z * h + bot q n * den z
 
+-- how close the fade is: within one part in 2 ^ 51
+abbrev pub parts : ℕ
+parts = 2 ^ 51
+
 -- ---- the laws
 
 -- the sums enclose one number: each sum top / bot is at most each late cap / bot, and the width of a late enclosure, its last term, at least halves with each term more
@@ -42,7 +45,7 @@ pub record Series : Type 0 where
 pub record Fading : Type 0 where
   pub short : (r : ℕ) → r < 2000 → Nearest r 2000 (nearest r 2000)
   pub far : (q : ℕ) → q < long → Nearest q 1 (nearest q 1)
-  pub close : (d : ℕ) → d < end → Close (2 ^ 51) d 2000 (fade d)
+  pub close : (d : ℕ) → d < end → Close parts d 2000 (fade d)
   pub above : (d : ℕ) → d < end → T (positive (fade d))
   pub falls : (d e : ℕ) → d < e → e ≤ end → T (lt (fade e) (fade d))
   pub double : (d : ℕ) → T (fits binary64 (fade d))

@@ -2,7 +2,7 @@
 use Prim.Native.Nat.{ℕ, zero, suc, _+_, _-_, _/_, _%_, _^_}
 use mathlib.Core.Bool.{Bool, true, false, _&&_, cond, not}
 use mathlib.Core.List.{List, [], _∷_}
-use lib.Dec.{eqb, leb, ltb}
+use lib.Dec.{eqb, ltb}
 use lib.ListN.{length, getD, set, replicate}
 use lib.Ieee as Ieee
 use lib.Ieee.{Float}
@@ -12,6 +12,7 @@ use Rattle.flow.specs.declared.Use.{Use}
 use Rattle.sender.specs.declared.Name.{Name}
 use Rattle.sender.specs.declared.Words.{Words}
 use Rattle.sender.specs.Sender as sender
+use Rattle.store.specs.Sorted.{sorted}
 
 abbrev pub dims : ℕ
 dims = flow.dims
@@ -175,28 +176,16 @@ count rows n w cause =
 unfoldable pub total-at : List (List ℕ) → ℕ → ℕ
 total-at rows i = ((getD (counted-row rows i) 5 0 + getD (counted-row rows i) 6 0) % 2 ^ 64 + getD (counted-row rows i) 7 0) % 2 ^ 64
 
-abbrev pub one-if : ℕ → Bool → ℕ
-one-if n true = n + 1
-one-if n false = n
+-- the totals of the first n sources
+unfoldable pub totals : List (List ℕ) → ℕ → List ℕ
+totals rows zero = []
+totals rows (suc n) = total-at rows n ∷ totals rows n
 
--- at how many of n p holds
-unfoldable pub number-of : (ℕ → Bool) → ℕ → ℕ
-number-of p zero = 0
-number-of p (suc n) = one-if (number-of p n) (p n)
+-- of the ascending totals the one at index length / 4
+unfoldable pub keep-from : List ℕ → ℕ
+keep-from l = getD (sorted l) (length l / 4) 0
 
-unfoldable pub below : List (List ℕ) → ℕ → ℕ → ℕ
-below rows x n = number-of (λ (i : ℕ). ltb (total-at rows i) x) n
-
-unfoldable pub within : List (List ℕ) → ℕ → ℕ → ℕ
-within rows x n = number-of (λ (i : ℕ). leb (total-at rows i) x) n
-
-unfoldable pub is-nth : List (List ℕ) → ℕ → ℕ → ℕ → Bool
-is-nth rows n k i = cond (leb (below rows (total-at rows i) n) k) (ltb k (within rows (total-at rows i) n)) false
-
--- the total at index k of the n totals, ascending
-unfoldable pub nth : List (List ℕ) → ℕ → ℕ → ℕ
-nth rows n k = cond (ltb (first (is-nth rows n k) n) n) (total-at rows (first (is-nth rows n k) n)) 0
-
+-- the source at i: moved to the end of those kept where its total is above k, else freed
 unfoldable pub prune-one : Sources → ℕ → ℕ → Sources
 prune-one s k i =
     choose (ltb k (total-at (s .rows) i)) (sources (s .count + 1) (set (set (s .rows) i (replicate 8 0)) (s .count) (counted-row (s .rows) i)))
@@ -206,5 +195,6 @@ unfoldable pub prune : List (List ℕ) → ℕ → ℕ → Sources
 prune rows k zero = sources 0 rows
 prune rows k (suc n) = prune-one (prune rows k n) k n
 
+-- where every row is taken, the spare one too, only totals above k remain
 unfoldable pub pruned : Sources → Sources
-pruned s = choose (ltb (s .count) (length (s .rows))) s (prune (s .rows) (nth (s .rows) (s .count) (s .count / 4)) (s .count))
+pruned s = choose (ltb (s .count) (length (s .rows))) s (prune (s .rows) (keep-from (totals (s .rows) (s .count))) (s .count))

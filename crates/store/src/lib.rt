@@ -1,51 +1,21 @@
 // Rows of lent memory: a unit's record, and a counted source's.
 ghost use mathlib.Core.Path.{_≡_};
-ghost use Prim.Native.Nat.{_<_, _≤_, _+_, _^_};
+ghost use Prim.Native.Nat.{_<_, _≤_, _+_};
 ghost use lib.ListN.{length};
 ghost use Rattle.store.specs.Store as store;
+
+mod floats;
+mod totals;
+
+use floats::joined;
+use floats::mark;
+use floats::part;
 use flow::DIMS;
 use flow::Use;
 use sender::Name;
 use sender::Words;
-
-// ---- a use as floats of memory: attempted per dimension, then credit per dimension
-fn part(row: [f64; 2 * DIMS], from: usize) -> [f64; DIMS]
-    requires { ⌜ from + store.dims ≤ store.dims + store.dims ⌝ }
-    ensures { λ r. ⌜ r ≡ store.part row from ⌝ }
-{
-    let mut out = [0.0; DIMS];
-    let mut d = 0;
-    while d < DIMS {
-        out[d] = row[from + d];
-        d += 1;
-    }
-    out
-}
-
-fn pick(a: [f64; DIMS], b: [f64; DIMS], i: usize) -> f64
-    requires { ⌜ i < store.dims + store.dims ⌝ }
-    ensures { λ r. ⌜ r ≡ store.picked a b i ⌝ }
-{
-    if i < DIMS { a[i] } else { b[i - DIMS] }
-}
-
-fn joined(a: [f64; DIMS], b: [f64; DIMS]) -> [f64; 2 * DIMS]
-    ensures { λ r. ⌜ r ≡ store.joined a b ⌝ }
-{
-    let mut out = [0.0; 2 * DIMS];
-    let mut i = 0;
-    while i < 2 * DIMS {
-        out[i] = pick(a, b, i);
-        i += 1;
-    }
-    out
-}
-
-fn mark(fresh: bool) -> u64
-    ensures { λ r. ⌜ r ≡ store.mark fresh ⌝ }
-{
-    if fresh { 1 } else { 0 }
-}
+use totals::keep_from;
+pub use totals::total_at;
 
 // ---- a record
 pub fn words_at(units: &[[u64; 7]], i: usize) -> Words
@@ -358,77 +328,6 @@ pub fn count(counted: &mut [[u64; 8]], n: usize, w: Words, cause: usize) -> usiz
 
 // ---- leaving out the least counted
 
-pub fn total_at(counted: &[[u64; 8]], i: usize) -> u64
-    requires { ⌜ i < length (now counted) ⌝ }
-    ensures { λ r. ⌜ r ≡ store.total-at (now (counted .entry)) i ⌝ }
-{
-    let row = counted[i];
-    std::num::wrapping_add_u64(std::num::wrapping_add_u64(row[5], row[6]), row[7])
-}
-
-fn one_if(n: usize, yes: bool) -> usize
-    requires { ⌜ n + 1 < 2 ^ 64 ⌝ }
-    ensures { λ r. ⌜ r ≡ store.one-if n yes ⌝ }
-    ensures { λ r. ⌜ r ≤ n + 1 ⌝ }
-{
-    if yes { n + 1 } else { n }
-}
-
-// How many of n totals are below x.
-fn below(counted: &[[u64; 8]], n: usize, x: u64) -> usize
-    requires { ⌜ n ≤ length (now counted) ⌝ }
-    ensures { λ r. ⌜ r ≡ store.below (now (counted .entry)) x n ⌝ }
-{
-    let mut k = 0;
-    let mut i = 0;
-    while i < n {
-        k = one_if(k, total_at(counted, i) < x);
-        i += 1;
-    }
-    k
-}
-
-// And how many are x or below.
-fn within(counted: &[[u64; 8]], n: usize, x: u64) -> usize
-    requires { ⌜ n ≤ length (now counted) ⌝ }
-    ensures { λ r. ⌜ r ≡ store.within (now (counted .entry)) x n ⌝ }
-{
-    let mut k = 0;
-    let mut i = 0;
-    while i < n {
-        k = one_if(k, total_at(counted, i) <= x);
-        i += 1;
-    }
-    k
-}
-
-// Whether the total at i stands at index k of the ascending totals.
-fn is_nth(counted: &[[u64; 8]], n: usize, k: usize, i: usize) -> bool
-    requires { ⌜ n ≤ length (now counted) ⌝ }
-    requires { ⌜ i < n ⌝ }
-    ensures { λ r. ⌜ r ≡ store.is-nth (now (counted .entry)) n k i ⌝ }
-{
-    let x = total_at(counted, i);
-    if below(counted, n, x) <= k {
-        return k < within(counted, n, x);
-    }
-    false
-}
-
-fn nth(counted: &[[u64; 8]], n: usize, k: usize) -> u64
-    requires { ⌜ n ≤ length (now counted) ⌝ }
-    ensures { λ r. ⌜ r ≡ store.nth (now (counted .entry)) n k ⌝ }
-{
-    let mut i = 0;
-    while i < n {
-        if is_nth(counted, n, k, i) {
-            return total_at(counted, i);
-        }
-        i += 1;
-    }
-    0
-}
-
 fn prune_one(counted: &mut [[u64; 8]], i: usize, j: usize, k: u64) -> usize
     requires { ⌜ i < length (now counted) ⌝ }
     requires { ⌜ j ≤ i ⌝ }
@@ -460,15 +359,16 @@ fn prune(counted: &mut [[u64; 8]], n: usize, k: u64) -> usize
     j
 }
 
-// The spare row taken: the least counted are left out.
+// Where the spare row is taken too, the least counted are left out; then at least one row is free again.
 pub fn pruned(counted: &mut [[u64; 8]], n: usize) -> usize
     requires { ⌜ n ≤ length (now counted) ⌝ }
     ensures { λ r. ⌜ store.sources r (now (counted .exit)) ≡ store.pruned (store.sources n (now (counted .entry))) ⌝ }
     ensures { λ r. ⌜ r ≤ n ⌝ }
+    ensures { λ r. ⌜ (0 < length (now (counted .entry)) → r < length (now (counted .entry))) ⌝ }
 {
     if n < counted.len() {
         return n;
     }
-    let k = nth(counted, n, n / 4);
+    let k = keep_from(counted, n);
     prune(counted, n, k)
 }

@@ -1,12 +1,8 @@
-use Rattle.store.specs.Store.{added}
-use mathlib.Core.Path.{_≡_, refl, sym, ap, _∙_}
+-- `store::add` meets its contract. Assumes nothing.
 use borrow.Author.Needs.{needs}
+use Rattle.store.specs.Store.{added}
 use Rattle.store.proofs.add.Statement.{statement}
 use Rattle.store.proofs.add.Tie as tie
-use Rattle.store.proofs.add.Reads as reads
-use Rattle.store.proofs.add.Lts as lts
-use Rattle.store.proofs.joined.Reads as joined-reads
-use Rattle.store.proofs.mark.Reads as mark-reads
 
 mul-hashes : tie.Need-mul-hashes
 mul-hashes c = search needs

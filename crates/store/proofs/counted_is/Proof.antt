@@ -1,12 +1,8 @@
-use Rattle.store.specs.Store.{counted-is}
-use mathlib.Core.Path.{_≡_, refl, sym, ap, _∙_}
+-- `store::counted_is` meets its contract. Assumes nothing.
 use borrow.Author.Needs.{needs}
+use Rattle.store.specs.Store.{counted-is}
 use Rattle.store.proofs.counted_is.Statement.{statement}
 use Rattle.store.proofs.counted_is.Tie as tie
-use Rattle.store.proofs.counted_is.Reads as reads
-use Rattle.store.proofs.counted_is.Lts as lts
-use Rattle.store.proofs.counted_words.Reads as counted-words-reads
-use Rattle.store.proofs.same.Reads as same-reads
 
 counted-words-requires : tie.Need-counted-words-requires
 counted-words-requires c κs = search needs

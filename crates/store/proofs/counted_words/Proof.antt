@@ -1,10 +1,9 @@
-use Rattle.store.specs.Store.{words-at}
-use mathlib.Core.Path.{_≡_, refl, sym, ap, _∙_}
+-- `store::counted_words` meets its contract. Assumes nothing.
 use borrow.Author.Needs.{needs}
+use mathlib.Core.Path.{refl}
+use Rattle.store.specs.Store.{words-at}
 use Rattle.store.proofs.counted_words.Statement.{statement}
 use Rattle.store.proofs.counted_words.Tie as tie
-use Rattle.store.proofs.counted_words.Reads as reads
-use Rattle.store.proofs.counted_words.Lts as lts
 
 mul-row : tie.Need-mul-row
 mul-row c = search needs

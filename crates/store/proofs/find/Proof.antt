@@ -1,15 +1,13 @@
-use Rattle.store.proofs.Steps.{first-none, first-next, first-found}
-use lib.ListN.{length}
-use Rattle.store.specs.Store.{first, is-at, find}
-use native.Mathlib.Omega.{arith}
-use Prim.Native.Nat.{ℕ, _≤_, _<_, _-_, _+_}
-use mathlib.Core.Path.{_≡_, refl, sym, ap, _∙_}
+-- `store::find` meets its contract. Assumes nothing.
+use Prim.Native.Nat.{_≤_, _-_}
 use borrow.Author.Needs.{needs}
+use lib.ListN.{length}
+use mathlib.Core.Path.{_≡_, sym, _∙_}
+use native.Mathlib.Omega.{arith}
+use Rattle.store.specs.Store.{first, is-at, find}
+use Rattle.store.proofs.Steps.{first-none, first-next, first-found}
 use Rattle.store.proofs.find.Statement.{statement}
 use Rattle.store.proofs.find.Tie as tie
-use Rattle.store.proofs.find.Reads as reads
-use Rattle.store.proofs.find.Lts as lts
-use Rattle.store.proofs.is_at.Reads as is-at-reads
 
 abbrev Inv-loop : tie.InvT-loop
 Inv-loop hashes units n w i₀ i = (i ≤ n) × (n ≤ length hashes) × (n ≤ length units) × (first (is-at hashes units w) i ≡ i)

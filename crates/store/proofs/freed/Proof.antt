@@ -1,10 +1,9 @@
-use Rattle.store.specs.Store.{freed}
-use mathlib.Core.Path.{_≡_, refl, sym, ap, _∙_}
+-- `store::freed` meets its contract. Assumes nothing.
 use borrow.Author.Needs.{needs}
+use mathlib.Core.Path.{refl}
+use Rattle.store.specs.Store.{freed}
 use Rattle.store.proofs.freed.Statement.{statement}
 use Rattle.store.proofs.freed.Tie as tie
-use Rattle.store.proofs.freed.Reads as reads
-use Rattle.store.proofs.freed.Lts as lts
 
 mul-hashes : tie.Need-mul-hashes
 mul-hashes c = search needs

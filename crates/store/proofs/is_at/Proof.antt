@@ -1,13 +1,9 @@
-use Rattle.store.specs.Store.{is-at}
-use borrow.Author.Tests.{eq-eqb, ne-eqb, lt-ltb, le-ltb}
-use mathlib.Core.Path.{_≡_, refl, sym, ap, _∙_}
+-- `store::is_at` meets its contract. Assumes nothing.
 use borrow.Author.Needs.{needs}
+use borrow.Author.Tests.{eq-eqb, ne-eqb}
+use Rattle.store.specs.Store.{is-at}
 use Rattle.store.proofs.is_at.Statement.{statement}
 use Rattle.store.proofs.is_at.Tie as tie
-use Rattle.store.proofs.is_at.Reads as reads
-use Rattle.store.proofs.is_at.Lts as lts
-use Rattle.store.proofs.same.Reads as same-reads
-use Rattle.store.proofs.words_at.Reads as words-at-reads
 
 mul-if1 : tie.Need-mul-if1
 mul-if1 c = search needs

@@ -1,12 +1,11 @@
-use lib.ListN.{length-set}
-use Rattle.store.specs.Store.{moved}
-use native.Mathlib.Omega.{arith}
-use mathlib.Core.Path.{_≡_, refl, sym, ap, _∙_}
+-- `store::moved` meets its contract. Assumes nothing.
 use borrow.Author.Needs.{needs}
+use lib.ListN.{length-set}
+use mathlib.Core.Path.{refl}
+use native.Mathlib.Omega.{arith}
+use Rattle.store.specs.Store.{moved}
 use Rattle.store.proofs.moved.Statement.{statement}
 use Rattle.store.proofs.moved.Tie as tie
-use Rattle.store.proofs.moved.Reads as reads
-use Rattle.store.proofs.moved.Lts as lts
 
 mul-hash : tie.Need-mul-hash
 mul-hash c = search needs

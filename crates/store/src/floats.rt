@@ -1,0 +1,43 @@
+// A use as floats of memory: attempted per dimension, then credit per dimension; the fresh mark as a word.
+ghost use mathlib.Core.Path.{_≡_};
+ghost use Prim.Native.Nat.{_<_, _≤_, _+_};
+ghost use Rattle.store.specs.Store as store;
+use flow::DIMS;
+
+pub fn part(row: [f64; 2 * DIMS], from: usize) -> [f64; DIMS]
+    requires { ⌜ from + store.dims ≤ store.dims + store.dims ⌝ }
+    ensures { λ r. ⌜ r ≡ store.part row from ⌝ }
+{
+    let mut out = [0.0; DIMS];
+    let mut d = 0;
+    while d < DIMS {
+        out[d] = row[from + d];
+        d += 1;
+    }
+    out
+}
+
+fn pick(a: [f64; DIMS], b: [f64; DIMS], i: usize) -> f64
+    requires { ⌜ i < store.dims + store.dims ⌝ }
+    ensures { λ r. ⌜ r ≡ store.picked a b i ⌝ }
+{
+    if i < DIMS { a[i] } else { b[i - DIMS] }
+}
+
+pub fn joined(a: [f64; DIMS], b: [f64; DIMS]) -> [f64; 2 * DIMS]
+    ensures { λ r. ⌜ r ≡ store.joined a b ⌝ }
+{
+    let mut out = [0.0; 2 * DIMS];
+    let mut i = 0;
+    while i < 2 * DIMS {
+        out[i] = pick(a, b, i);
+        i += 1;
+    }
+    out
+}
+
+pub fn mark(fresh: bool) -> u64
+    ensures { λ r. ⌜ r ≡ store.mark fresh ⌝ }
+{
+    if fresh { 1 } else { 0 }
+}

@@ -1,0 +1,70 @@
+-- The table LEAST of src/lib.rt, and its rule at every entry, by one test that antt computes. Assumes nothing.
+use mathlib.Core.Path.{_≡_, refl, sym, subst}
+use mathlib.Core.Logic.{inl, inr}
+use mathlib.Core.Bool.{Bool, true, _&&_}
+use mathlib.Core.List.{List, [], _∷_}
+use Prim.Native.Nat.{ℕ, zero, suc, _+_, _-_, _*_, _^_, _≤_, _<_}
+use native.Mathlib.Nat.{le-trans, lt-of-le-of-lt, le-of-suc-le-suc, not-suc-le-zero, eq-or-lt-of-le, pow-le-pow-left, pow-lt-pow-left}
+use native.Mathlib.Omega.{arith}
+use lib.Dec.{T, leb, ltb, leb→le, ltb→lt}
+use lib.ListN.{getD}
+use lib.Ieee.Fits.{and-l, and-r}
+use Rattle.wants.specs.Bucket.{From, Under}
+
+-- ---- a test that passes at each place below n
+upto : (ℕ → Bool) → ℕ → Bool
+upto f zero = true
+upto f (suc n) = f n && upto f n
+
+each : (f : ℕ → Bool) (n : ℕ) → T (upto f n) → (k : ℕ) → k < n → T (f k)
+unfolding upto
+each f zero t k h = absurd (not-suc-le-zero h)
+each f (suc n) t k h = elim (eq-or-lt-of-le (le-of-suc-le-suc h)) [
+  | inl e ↦ subst (λ (i : ℕ). T (f i)) (sym e) (and-l (f n) (upto f n) t)
+  | inr l ↦ each f n (and-r (f n) (upto f n) t) k l
+]
+
+-- ---- the table
+unfoldable pub table : List ℕ
+table =
+    4503599627370496 ∷ 4702991017412880 ∷ 4911210218475899 ∷ 5128648071143993 ∷
+    5355712719992598 ∷ 5592830379701283 ∷ 5840446135085608 ∷ 6099024776549418 ∷
+    6369051672525773 ∷ 6651033680544135 ∷ 6945500098633948 ∷ 7253003658850449 ∷
+    7574121564787630 ∷ 7909456575025821 ∷ 8259638134547592 ∷ 8625323556245722 ∷
+    []
+
+-- s is the least with 2 ^ (832 + j) ≤ s ^ 16
+least : ℕ → ℕ → Bool
+least j s = leb (2 ^ (832 + j)) (s ^ 16) && ltb ((s - 1) ^ 16) (2 ^ (832 + j))
+
+at : ℕ → Bool
+at j = least j (getD table j 0)
+
+tested : T (upto at 16)
+unfolding table upto at least
+tested = tt
+
+rule : (j : ℕ) → j < 16 → (2 ^ (832 + j) ≤ getD table j 0 ^ 16) × ((getD table j 0 - 1) ^ 16 < 2 ^ (832 + j))
+unfolding at least
+rule j h =
+    let a : Bool = leb (2 ^ (832 + j)) (getD table j 0 ^ 16) in
+    let b : Bool = ltb ((getD table j 0 - 1) ^ 16) (2 ^ (832 + j)) in
+    let t : T (a && b) = each at 16 tested j h in
+    (leb→le (2 ^ (832 + j)) (getD table j 0 ^ 16) (and-l a b t), ltb→lt ((getD table j 0 - 1) ^ 16) (2 ^ (832 + j)) (and-r a b t))
+
+-- ---- what a comparison with an entry says
+pub from-at : (j s : ℕ) → j < 16 → getD table j 0 ≤ s → From j s
+unfolding From
+from-at j s h l = le-trans (rule j h .0) (pow-le-pow-left l 16)
+
+pub under-at : (j s : ℕ) → j < 16 → s < getD table j 0 → Under j s
+unfolding Under
+under-at j s h l = let g : s ≤ getD table j 0 - 1 = omega arith in lt-of-le-of-lt (pow-le-pow-left g 16) (rule j h .1)
+
+pub from-first : (s : ℕ) → 2 ^ 52 ≤ s → From 0 s
+unfolding From
+from-first s h = pow-le-pow-left h 16
+
+pub under-last : (s : ℕ) → s < 2 ^ 53 → Under 16 s
+unfolding Under
+under-last s h = pow-lt-pow-left h (λ (e : 16 ≡ 0). omega arith)

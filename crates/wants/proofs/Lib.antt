@@ -1,0 +1,5 @@
+pub mod Least
+pub mod Octave
+pub mod Raised
+pub mod Steps
+pub mod Cases

@@ -1,0 +1,38 @@
+-- The bucket of a want, in whole numbers: a double m × 2 ^ e is the fraction m × up e / down e. Definitions only.
+use Prim.Native.Nat.{ℕ, zero, suc, _+_, _*_, _^_, _≤_, _<_}
+use mathlib.Core.Bool.{Bool, true, false, cond}
+use lib.Dec.{leb}
+use lib.Ieee as Ieee
+use lib.Ieee.{Float, nan, inf, fin, up, down}
+use Rattle.flow.specs.Flow.{one}
+
+-- 2 ^ b ≤ x ^ 16, both sides multiplied by the denominator
+unfoldable pub reaches : ℕ → Float → Bool
+reaches b nan = false
+reaches b (inf s) = true
+reaches b (fin s m e) = leb (2 ^ b * down e ^ 16) ((m * up e) ^ 16)
+
+-- the largest b up to n with 2 ^ b ≤ x ^ 16, and 0 where none above 0 has it
+unfoldable pub largest : ℕ → Float → ℕ
+largest zero x = 0
+largest (suc b) x = cond (reaches (suc b) x) (suc b) (largest b x)
+
+-- a want up to 1, or not-a-number, goes to bucket 0; else the largest b with 2 ^ b ≤ want ^ 16, at most 767
+unfoldable pub bucket-of : Float → ℕ
+bucket-of want = cond (Ieee.lt one want) (largest 767 want) 0
+
+-- ---- within an octave: w = s / 2 ^ 52 lies from 1 to 2, and (2 ^ 52) ^ 16 = 2 ^ 832
+
+-- 2 ^ j ≤ w ^ 16
+unfoldable pub From : ℕ → ℕ → Type 0
+From j s = 2 ^ (832 + j) ≤ s ^ 16
+
+-- w ^ 16 < 2 ^ j
+unfoldable pub Under : ℕ → ℕ → Type 0
+Under j s = s ^ 16 < 2 ^ (832 + j)
+
+-- j is the largest with 2 ^ j ≤ w ^ 16
+pub record Sixteenth (s j : ℕ) : Type 0 where
+  pub within : j < 16
+  pub from : From j s
+  pub under : Under (j + 1) s

@@ -1,0 +1,3 @@
+pub mod Bucket
+pub mod Wants
+pub mod Cases
