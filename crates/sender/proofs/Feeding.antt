@@ -1,7 +1,7 @@
 -- Laws of `feed`: bytes fed in two parts, and the hash is below 2^64.
-use mathlib.Core.Path.{_≡_, refl, sym, ap, _∙_}
+use mathlib.Core.Path.{_≡_, refl}
 use mathlib.Core.List.{List, [], _∷_, _++_}
-use Prim.Native.Nat.{ℕ, _+_, _*_, _%_, _^_, _<_, _≤_}
+use Prim.Native.Nat.{ℕ, _+_, _*_, _^_, _<_, _≤_}
 use native.Mathlib.Nat.{mod-lt}
 use lib.Pow.{pow-pos}
 use lib.Bits.{bitXor}

@@ -1,5 +1,12 @@
+-- Multiplying: a product modulo 2^64 by halves. Feeding: laws of `feed`, and the hash of each unit. Ranking: the table is six bits of the hash.
+-- Doubles: the rank's exact value, and the Rust's table. Naming: units and their words. Cases: document 01's cases.
 pub mod Multiplying
 pub mod Feeding
 pub mod Ranking
+pub mod Doubles
 pub mod Naming
 pub mod Cases
+pub mod Labels
+pub mod Fields
+pub mod Reading
+pub mod Parsing

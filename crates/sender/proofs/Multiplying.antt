@@ -1,7 +1,7 @@
 -- Multiplication modulo 2^64 by halves of 32 bits: each product of two halves fits, and the halves' sum is the remainder of the product.
 use mathlib.Core.Path.{_≡_, sym, ap, _∙_}
 use Prim.Native.Nat.{ℕ, _+_, _*_, _/_, _%_, _^_, _<_, _≤_}
-use native.Mathlib.Nat.{mul-add-mod-self-right, div-add-mod', mul-le-mul, mod-lt, le-of-lt}
+use native.Mathlib.Nat.{mul-add-mod-self-right, div-add-mod', mul-le-mul}
 use native.Mathlib.Omega.{arith}
 use lib.Pow.{mod-mod-pow}
 use mir.Syntax.{w64}

@@ -1,17 +1,16 @@
 -- A unit's words: two units with the same words are the same unit, and the unit of a unit's words is that unit.
 use mathlib.Core.Path.{_≡_, refl, sym, ap, _∙_}
 use mathlib.Core.Bool.{Bool, true, false}
-use Prim.Native.Nat.{ℕ, _<_}
+use Prim.Native.Nat.{ℕ}
 use native.Mathlib.Omega.{arith}
 use borrow.Author.Tests.{eq-eqb, eqb-true, lt-ltb}
 use lib.Dec.{eqb}
-use Rattle.sender.specs.Sender.{Tells, Ranged, pick, words-of, unit-of}
-use Rattle.sender.specs.declared.PublicKey.{PublicKey}
-use Rattle.sender.specs.declared.Group.{Group}
+use Rattle.sender.specs.Sender.{Tells, Ranged, pick, words-of, unit-of, name-of}
 use Rattle.sender.specs.declared.Group.the-variants.{V4, V6}
 use Rattle.sender.specs.declared.Unit as unit
 use Rattle.sender.specs.declared.Unit.the-variants.{Corroborated, Group as Grouped, NoAddress, Overflow}
 use Rattle.sender.specs.declared.Words.{Words}
+use Rattle.sender.specs.declared.Name.{Name}
 
 never : false ≡ true → ⊥
 never e = let z : _≡_ {A = ℕ} 0 1 = cc in omega arith
@@ -46,6 +45,10 @@ named-back Overflow = refl
 
 pub words-injective : (u v : unit.Unit) → words-of u ≡ words-of v → u ≡ v
 words-injective u v e = sym (named-back u) ∙ ap named e ∙ named-back v
+
+pub name-injective : (u v : unit.Unit) → name-of u ≡ name-of v → u ≡ v
+unfolding name-of
+name-injective u v e = words-injective u v (ap (λ (n : Name). n .words) e)
 
 -- two units are told apart by their words
 pub by-words : (r : Bool) (u v : unit.Unit) (x y : Words) → x ≡ words-of u → y ≡ words-of v → Tells r (x ≡ y) → Tells r (u ≡ v)

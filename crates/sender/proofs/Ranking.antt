@@ -1,11 +1,10 @@
 -- The table of a hash is its six highest bits, and below 64.
-use mathlib.Core.Path.{_≡_, sym, ap, _∙_}
-use Prim.Native.Nat.{ℕ, zero, _*_, _/_, _^_, _<_}
-use native.Mathlib.Nat.{mul-comm, div-div-eq-div-mul, mul-div-mul-right, div-lt-iff-lt-mul}
-use native.Mathlib.Omega.{arith}
+use mathlib.Core.Path.{_≡_, ap, _∙_}
+use Prim.Native.Nat.{ℕ, _/_, _^_, _<_}
+use native.Mathlib.Nat.{mul-comm, div-div-eq-div-mul, mul-div-mul-right}
 use lib.Dec.{lit<}
 use lib.Pow.{shr-lt}
-use Rattle.sender.specs.Sender.{table-of-hash, table-of, hash-of}
+use Rattle.sender.specs.Sender.{table-of-hash, table-of}
 use Rattle.sender.specs.declared.Unit as unit
 use Rattle.sender.proofs.Feeding.{hash-below}
 

@@ -1,12 +1,12 @@
 -- A unit's bytes, hash, rank and table, and its words in memory. Definitions only.
-use Prim.Native.Nat.{ℕ, _+_, _*_, _/_, _^_, _<_}
+use Prim.Native.Nat.{ℕ, _+_, _*_, _/_, _^_, _<_, min}
 use mathlib.Core.Path.{_≡_}
 use mathlib.Core.Bool.{Bool, true, false}
 use mathlib.Core.List.{List, [], _∷_, _++_}
 use lib.Dec.{eqb, ltb}
 use lib.IntN.{pos}
 use lib.Ieee as Ieee
-use lib.Ieee.{Float, binary64, ofBits, ofInt}
+use lib.Ieee.{Float, binary64, ofBits, ofInt, toUnsigned}
 use Rattle.sender.specs.Fnv.{fnv1a, big-endian}
 use Rattle.sender.specs.declared.PublicKey.{PublicKey}
 use Rattle.sender.specs.declared.Group.{Group}
@@ -54,6 +54,11 @@ rank-of-hash hash = Ieee.div binary64 (exact (hash / 2 ^ 11)) (ofBits binary64 0
 -- the whole part of 64 × rank
 unfoldable pub table-of-hash : ℕ → ℕ
 table-of-hash hash = 64 * (hash / 2 ^ 11) / 2 ^ 53
+
+-- the table as the Rust takes it from the rank: the double product with 64.0 (0x4050_0000_0000_0000), cut to its whole part,
+-- and at most 63. `rust-table-is` shows that this is the same table
+unfoldable pub rust-table : Float → ℕ
+rust-table r = min (toUnsigned 64 (Ieee.mul binary64 r (ofBits binary64 0x4050_0000_0000_0000))) 63
 
 abbrev pub rank : unit.Unit → Float
 rank u = rank-of-hash (hash-of u)

@@ -1,11 +1,8 @@
+-- `sender::Group::as_u64` is the definition's number of a group.
 use Rattle.sender.specs.Sender.{as-u64}
 use borrow.Author.Needs.{needs}
 use Rattle.sender.proofs.Group.as_u64.Statement.{statement}
 use Rattle.sender.proofs.Group.as_u64.Tie as tie
-use Rattle.sender.proofs.Group.as_u64.Reads as reads
-use Rattle.sender.proofs.Group.as_u64.Lts as lts
-use Rattle.sender.proofs.wide16.Reads as wide16-reads
-use Rattle.sender.proofs.wide32.Reads as wide32-reads
 
 enum-known-self : tie.Need-enum-known-self
 enum-known-self c = search needs

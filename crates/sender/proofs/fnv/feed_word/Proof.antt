@@ -1,14 +1,12 @@
+-- `sender::fnv::feed_word` feeds the eight bytes of a word, most significant first.
 use native.Mathlib.Nat.{div-one}
 use Prim.Native.Nat.{ℕ, _%_}
 use Rattle.sender.specs.Fnv.{fed}
 use Rattle.sender.specs.Fnv.{feed, big-endian}
-use mathlib.Core.Path.{_≡_, refl, sym, ap, _∙_}
+use mathlib.Core.Path.{sym, ap}
 use borrow.Author.Needs.{needs}
 use Rattle.sender.proofs.fnv.feed_word.Statement.{statement}
 use Rattle.sender.proofs.fnv.feed_word.Tie as tie
-use Rattle.sender.proofs.fnv.feed_word.Reads as reads
-use Rattle.sender.proofs.fnv.feed_word.Lts as lts
-use Rattle.sender.proofs.fnv.fed.Reads as fed-reads
 
 fed-requires : tie.Need-fed-requires
 fed-requires c κs = search needs

@@ -1,16 +1,13 @@
+-- `sender::fnv::fnv1a` is FNV-1a of the slice. The invariant: feeding what is left of the slice gives the hash of the whole.
 use Prim.Native.Nat.{_<_}
 use Rattle.sender.proofs.Feeding.{fed-next, fed-all}
 use Rattle.sender.specs.Fnv.{feed, fnv1a}
 use lib.ListN.{length, drop}
 use Prim.Native.Nat.{_≤_, _-_}
-use mathlib.Core.Path.{_≡_, refl, sym, ap, _∙_}
+use mathlib.Core.Path.{_≡_, refl, _∙_}
 use borrow.Author.Needs.{needs}
 use Rattle.sender.proofs.fnv.fnv1a.Statement.{statement}
 use Rattle.sender.proofs.fnv.fnv1a.Tie as tie
-use Rattle.sender.proofs.fnv.fnv1a.Reads as reads
-use Rattle.sender.proofs.fnv.fnv1a.Lts as lts
-use Rattle.sender.proofs.fnv.fed.Reads as fed-reads
-use Rattle.sender.proofs.fnv.wide8.Reads as wide8-reads
 
 abbrev Inv-loop : tie.InvT-loop
 Inv-loop bytes hash₀ i₀ hash i = (i ≤ length bytes) × (feed hash (drop i bytes) ≡ fnv1a bytes)

@@ -1,12 +1,10 @@
+-- `sender::fnv::wrapping_mul` is the remainder of the product by 2^64: no product of halves overflows, and `by-halves` gives the sum.
 use Rattle.sender.proofs.Multiplying.{halves-fit, by-halves}
 use Prim.Native.Nat.{ℕ, _+_, _*_, _/_, _%_, _^_}
-use mathlib.Core.Path.{_≡_, refl, sym, ap, _∙_}
+use mathlib.Core.Path.{ap, _∙_}
 use borrow.Author.Needs.{needs}
 use Rattle.sender.proofs.fnv.wrapping_mul.Statement.{statement}
 use Rattle.sender.proofs.fnv.wrapping_mul.Tie as tie
-use Rattle.sender.proofs.fnv.wrapping_mul.Reads as reads
-use Rattle.sender.proofs.fnv.wrapping_mul.Lts as lts
-use Rattle.std.proofs.num.wrapping_add_u64.Reads as wrapping-add-u64-reads
 
 mul-wrapping-add-u64 : tie.Need-mul-wrapping-add-u64
 mul-wrapping-add-u64 c = halves-fit (c .args .x / 4294967296) (c .args .y % 4294967296) (search needs) (search needs)

@@ -1,3 +1,4 @@
+-- `sender::hash::exact`: a whole number below 2^53 is a double.
 use lib.Dec.{le→leb}
 use lib.Ieee.{inFloat}
 use Prim.Native.Nat.{_^_}
@@ -5,8 +6,6 @@ use native.Mathlib.Nat.{le-of-lt}
 use borrow.Author.Needs.{needs}
 use Rattle.sender.proofs.hash.exact.Statement.{statement}
 use Rattle.sender.proofs.hash.exact.Tie as tie
-use Rattle.sender.proofs.hash.exact.Reads as reads
-use Rattle.sender.proofs.hash.exact.Lts as lts
 
 int-to-float-result : tie.Need-int-to-float-result
 unfolding inFloat

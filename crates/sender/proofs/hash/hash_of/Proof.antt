@@ -1,16 +1,8 @@
+-- `sender::hash::hash_of` is the definition's hash of every unit.
 use Rattle.sender.proofs.Feeding.{hash-group, hash-none, hash-overflow}
-use Rattle.sender.specs.Fnv.{feed, fnv1a, big-endian}
-use Rattle.sender.specs.Sender.{hash-of, bytes-of}
-use mathlib.Core.Path.{_≡_, refl, sym, ap, _∙_}
 use borrow.Author.Needs.{needs}
 use Rattle.sender.proofs.hash.hash_of.Statement.{statement}
 use Rattle.sender.proofs.hash.hash_of.Tie as tie
-use Rattle.sender.proofs.hash.hash_of.Reads as reads
-use Rattle.sender.proofs.hash.hash_of.Lts as lts
-use Rattle.sender.proofs.Group.as_u64.Reads as as-u64-reads
-use Rattle.sender.proofs.fnv.fed.Reads as fed-reads
-use Rattle.sender.proofs.fnv.feed_word.Reads as feed-word-reads
-use Rattle.sender.proofs.hash.hash_of_key.Reads as hash-of-key-reads
 
 enum-known-unit : tie.Need-enum-known-unit
 enum-known-unit c = search needs

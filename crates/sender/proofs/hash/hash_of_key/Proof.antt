@@ -1,15 +1,10 @@
+-- `sender::hash::hash_of_key` is the hash of a key's unit.
 use Rattle.sender.proofs.Feeding.{hash-key}
 use Rattle.sender.proofs.Feeding.{feed-key}
-use Rattle.sender.specs.Fnv.{feed, fnv1a, big-endian}
-use Rattle.sender.specs.Sender.{hash-of, bytes-of}
-use mathlib.Core.Path.{_≡_, refl, sym, ap, _∙_}
+use mathlib.Core.Path.{sym, _∙_}
 use borrow.Author.Needs.{needs}
 use Rattle.sender.proofs.hash.hash_of_key.Statement.{statement}
 use Rattle.sender.proofs.hash.hash_of_key.Tie as tie
-use Rattle.sender.proofs.hash.hash_of_key.Reads as reads
-use Rattle.sender.proofs.hash.hash_of_key.Lts as lts
-use Rattle.sender.proofs.fnv.fed.Reads as fed-reads
-use Rattle.sender.proofs.fnv.feed_word.Reads as feed-word-reads
 
 fed-requires : tie.Need-fed-requires
 fed-requires c κs = search needs

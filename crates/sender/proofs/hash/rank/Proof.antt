@@ -1,12 +1,9 @@
+-- `sender::hash::rank` is the rank of the unit's hash.
 use Rattle.sender.specs.Sender.{rank-of-hash}
-use mathlib.Core.Path.{_≡_, refl, sym, ap, _∙_}
+use mathlib.Core.Path.{ap, _∙_}
 use borrow.Author.Needs.{needs}
 use Rattle.sender.proofs.hash.rank.Statement.{statement}
 use Rattle.sender.proofs.hash.rank.Tie as tie
-use Rattle.sender.proofs.hash.rank.Reads as reads
-use Rattle.sender.proofs.hash.rank.Lts as lts
-use Rattle.sender.proofs.hash.hash_of.Reads as hash-of-reads
-use Rattle.sender.proofs.hash.rank_of_hash.Reads as rank-of-hash-reads
 
 hash-of-requires : tie.Need-hash-of-requires
 hash-of-requires c κs = search needs

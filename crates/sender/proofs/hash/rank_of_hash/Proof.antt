@@ -1,10 +1,8 @@
+-- `sender::hash::rank_of_hash` is the definition's rank.
 use Rattle.sender.specs.Sender.{rank-of-hash}
 use borrow.Author.Needs.{needs}
 use Rattle.sender.proofs.hash.rank_of_hash.Statement.{statement}
 use Rattle.sender.proofs.hash.rank_of_hash.Tie as tie
-use Rattle.sender.proofs.hash.rank_of_hash.Reads as reads
-use Rattle.sender.proofs.hash.rank_of_hash.Lts as lts
-use Rattle.sender.proofs.hash.exact.Reads as exact-reads
 
 exact-requires : tie.Need-exact-requires
 exact-requires c κs = search needs

@@ -1,12 +1,9 @@
+-- `sender::hash::table_of` is the table of the unit's hash.
 use Rattle.sender.specs.Sender.{table-of-hash}
-use mathlib.Core.Path.{_≡_, refl, sym, ap, _∙_}
+use mathlib.Core.Path.{ap, _∙_}
 use borrow.Author.Needs.{needs}
 use Rattle.sender.proofs.hash.table_of.Statement.{statement}
 use Rattle.sender.proofs.hash.table_of.Tie as tie
-use Rattle.sender.proofs.hash.table_of.Reads as reads
-use Rattle.sender.proofs.hash.table_of.Lts as lts
-use Rattle.sender.proofs.hash.hash_of.Reads as hash-of-reads
-use Rattle.sender.proofs.hash.table_of_hash.Reads as table-of-hash-reads
 
 hash-of-requires : tie.Need-hash-of-requires
 hash-of-requires c κs = search needs

@@ -1,9 +1,8 @@
+-- `sender::memory::is_overflow` is the definition's answer.
 use Rattle.sender.specs.Sender.{is-overflow}
 use borrow.Author.Needs.{needs}
 use Rattle.sender.proofs.memory.is_overflow.Statement.{statement}
 use Rattle.sender.proofs.memory.is_overflow.Tie as tie
-use Rattle.sender.proofs.memory.is_overflow.Reads as reads
-use Rattle.sender.proofs.memory.is_overflow.Lts as lts
 
 enum-told : tie.Need-enum-told
 enum-told c = search needs

@@ -1,11 +1,8 @@
+-- `sender::memory::name_of` is the hash and the words.
 use Rattle.sender.specs.Sender.{name-of}
 use borrow.Author.Needs.{needs}
 use Rattle.sender.proofs.memory.name_of.Statement.{statement}
 use Rattle.sender.proofs.memory.name_of.Tie as tie
-use Rattle.sender.proofs.memory.name_of.Reads as reads
-use Rattle.sender.proofs.memory.name_of.Lts as lts
-use Rattle.sender.proofs.hash.hash_of.Reads as hash-of-reads
-use Rattle.sender.proofs.memory.words_of.Reads as words-of-reads
 
 hash-of-requires : tie.Need-hash-of-requires
 hash-of-requires c κs = search needs

@@ -1,11 +1,8 @@
+-- `sender::memory::same_unit` is true exactly when the units are equal, by their words.
 use Rattle.sender.proofs.Naming.{by-words}
 use borrow.Author.Needs.{needs}
 use Rattle.sender.proofs.memory.same_unit.Statement.{statement}
 use Rattle.sender.proofs.memory.same_unit.Tie as tie
-use Rattle.sender.proofs.memory.same_unit.Reads as reads
-use Rattle.sender.proofs.memory.same_unit.Lts as lts
-use Rattle.sender.proofs.memory.same_words.Reads as same-words-reads
-use Rattle.sender.proofs.memory.words_of.Reads as words-of-reads
 
 words-of-requires : tie.Need-words-of-requires
 words-of-requires c κs = search needs

@@ -1,9 +1,8 @@
+-- `sender::memory::same_words` is true exactly when the words are equal.
 use Rattle.sender.proofs.Naming.{differ, by-kind}
 use Rattle.sender.specs.declared.Words.{Words}
 use Rattle.sender.proofs.memory.same_words.Statement.{statement}
 use Rattle.sender.proofs.memory.same_words.Tie as tie
-use Rattle.sender.proofs.memory.same_words.Reads as reads
-use Rattle.sender.proofs.memory.same_words.Lts as lts
 
 returns : tie.Need-returns
 returns c = differ (λ (w : Words). w .a) _ _ (c .if1 .taken)

@@ -1,10 +1,9 @@
+-- `sender::memory::unit_of` reads any words as the definition does.
 use borrow.Author.Tests.{eq-eqb, ne-eqb, lt-ltb, le-ltb}
 use Rattle.sender.specs.Sender.{unit-of}
 use borrow.Author.Needs.{needs}
 use Rattle.sender.proofs.memory.unit_of.Statement.{statement}
 use Rattle.sender.proofs.memory.unit_of.Tie as tie
-use Rattle.sender.proofs.memory.unit_of.Reads as reads
-use Rattle.sender.proofs.memory.unit_of.Lts as lts
 
 returns : tie.Need-returns
 unfolding unit-of

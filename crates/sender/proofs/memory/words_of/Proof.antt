@@ -1,12 +1,8 @@
+-- `sender::memory::words_of` gives the definition's words.
 use Rattle.sender.specs.Sender.{words-of}
 use borrow.Author.Needs.{needs}
 use Rattle.sender.proofs.memory.words_of.Statement.{statement}
 use Rattle.sender.proofs.memory.words_of.Tie as tie
-use Rattle.sender.proofs.memory.words_of.Reads as reads
-use Rattle.sender.proofs.memory.words_of.Lts as lts
-use Rattle.sender.proofs.memory.number.Reads as number-reads
-use Rattle.sender.proofs.wide16.Reads as wide16-reads
-use Rattle.sender.proofs.wide32.Reads as wide32-reads
 
 enum-known-unit : tie.Need-enum-known-unit
 enum-known-unit c = search needs

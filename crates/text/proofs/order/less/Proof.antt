@@ -1,0 +1,81 @@
+-- `text::less` meets its contract. The loop's invariant: what is left of the two strings compares as the whole strings do.
+use mathlib.Core.Path.{_≡_, refl, sym, ap, _∙_}
+use mathlib.Core.List.{[]}
+use Prim.Native.Nat.{_-_, _≤_}
+use native.Mathlib.Omega.{arith}
+use borrow.Author.Tests.{eq-eqb, ne-eqb}
+use lib.ListN.{length, drop, drop-of-length-le}
+use denote.Ref.{now}
+use Rattle.text.specs.Order.{less}
+use Rattle.text.proofs.Orders.{less-at, less-over, less-end}
+use Rattle.text.proofs.order.less.Statement.{statement}
+use Rattle.text.proofs.order.less.Tie as tie
+
+abbrev Inv-loop : tie.InvT-loop
+Inv-loop a b i₀ i = (i ≤ length a) × (less a b ≡ less (drop i a) (drop i b))
+
+abbrev μ-loop : tie.MeasureT-loop
+μ-loop a b i₀ i = length a - i
+
+loop-holds : tie.Need-loop-holds Inv-loop μ-loop
+loop-holds c = (omega arith, refl)
+
+returns : tie.Need-returns Inv-loop μ-loop
+returns c =
+    let a = c .before .before .before .args in
+    let l = c .before .before .loop in
+    sym (l .inv .1 ∙ less-over (now (a .a)) (now (a .b)) (l .i) (omega arith))
+
+shared-slice-read-if2 : tie.Need-shared-slice-read-if2 Inv-loop μ-loop
+shared-slice-read-if2 c = omega arith
+
+shared-slice-read-if2-2 : tie.Need-shared-slice-read-if2-2 Inv-loop μ-loop
+shared-slice-read-if2-2 c = omega arith
+
+shared-slice-read-result : tie.Need-shared-slice-read-result Inv-loop μ-loop
+shared-slice-read-result c = omega arith
+
+shared-slice-read-result-2 : tie.Need-shared-slice-read-result-2 Inv-loop μ-loop
+shared-slice-read-result-2 c = omega arith
+
+returns-2 : tie.Need-returns-2 Inv-loop μ-loop
+returns-2 c =
+    let a = c .before .before .before .before .before .before .before .before .args in
+    let l = c .before .before .before .before .before .before .before .loop in
+    sym (l .inv .1 ∙ less-at (now (a .a)) (now (a .b)) (l .i) (omega arith) (omega arith) ∙ simp (ne-eqb _ _ (c .before .before .if2 .taken)))
+
+add-i : tie.Need-add-i Inv-loop μ-loop
+add-i c = omega arith
+
+loop-less : tie.Need-loop-less Inv-loop μ-loop
+loop-less c = omega arith
+
+loop-again : tie.Need-loop-again Inv-loop μ-loop
+loop-again c =
+    let a = c .before .before .before .before .before .before .args in
+    let l = c .before .before .before .before .before .loop in
+    (omega arith, l .inv .1 ∙ less-at (now (a .a)) (now (a .b)) (l .i) (omega arith) (omega arith) ∙ simp (eq-eqb _ _ (c .if2 .left)))
+
+returns-3 : tie.Need-returns-3 Inv-loop μ-loop
+returns-3 c =
+    let a = c .before .before .args in
+    let l = c .before .loop in
+    sym (l .inv .1 ∙ less-end (now (a .a)) (now (a .b)) (l .i) (omega arith))
+
+pub less-spec : {M : Type 1} → statement M
+less-spec =
+    tie.close
+    (tie.spec
+    Inv-loop
+    μ-loop
+    loop-holds
+    returns
+    shared-slice-read-if2
+    shared-slice-read-if2-2
+    shared-slice-read-result
+    shared-slice-read-result-2
+    returns-2
+    add-i
+    loop-less
+    loop-again
+    returns-3)
