@@ -71,6 +71,10 @@ abbrev pub credit-of : Bool → Float → Float → ℕ → Float
 credit-of fresh credit fill idle =
     cond fresh (Ieee.mul binary64 fill four) (least (Ieee.add binary64 credit (Ieee.mul binary64 fill (seconds idle))) (Ieee.mul binary64 fill four))
 
+-- after a hand-back: no cap until the next judgement
+abbrev pub credit-back : Float → Float → Float
+credit-back credit cost = Ieee.add binary64 credit cost
+
 abbrev pub weight-of : Bool → ℕ → Float
 weight-of fresh idle = cond fresh one (cond (leb 2000 idle) one half)
 
@@ -78,6 +82,27 @@ weight-of fresh idle = cond fresh one (cond (leb 2000 idle) one half)
 abbrev pub want-of : Float → Float → Float → Float → Float
 want-of weight attempted cost level =
     Ieee.div binary64 (Ieee.div binary64 (Ieee.add binary64 attempted (Ieee.mul binary64 (Ieee.sub binary64 weight one) cost)) two) level
+
+-- the three rules, each for one dimension
+abbrev pub credit-holds : Float → Float → Bool
+credit-holds credit cost = Ieee.le cost credit
+
+abbrev pub tokens-hold : Bucket → Float → Bool
+tokens-hold b cost = Ieee.le cost (b .tokens)
+
+-- the part of the burst that the batch would leave reaches the mark
+abbrev pub reserve-holds : Bucket → Float → Float → Bool
+reserve-holds b cost mark = Ieee.le mark (Ieee.div binary64 (Ieee.sub binary64 (b .tokens) cost) (b .burst))
+
+abbrev pub tenth : Float
+tenth = ofBits binary64 0x3fb9_9999_9999_999a
+
+abbrev pub millionth : Float
+millionth = ofBits binary64 0x3eb0_c6f7_a0b5_ed8d
+
+-- the mark rises with the want, by a hair with the rank
+abbrev pub mark-of : Float → Float → Float
+mark-of wants rank = Ieee.mul binary64 tenth (Ieee.sub binary64 one (Ieee.div binary64 one (Ieee.mul binary64 wants (Ieee.add binary64 one (Ieee.mul binary64 rank millionth)))))
 
 -- ---- over the dimensions: the parts below n anew, each by f
 unfoldable pub upto : {A : Type 0} → (ℕ → A) → ℕ → List A → List A
@@ -152,7 +177,7 @@ abbrev pub want : Float → List Float → List Float → List Float → Float
 want weight attempted cost level = largest (λ (d : ℕ). want-of weight (at attempted d) (at cost d) (at level d)) dims
 
 abbrev pub covers : List Float → List Float → Bool
-covers credit cost = all (λ (d : ℕ). Ieee.le (at cost d) (at credit d)) dims
+covers credit cost = all (λ (d : ℕ). credit-holds (at credit d) (at cost d)) dims
 
 abbrev pub charged : Use → List Float → Use
 charged u cost = holding u (each (λ (d : ℕ). Ieee.sub binary64 (at (u .credit) d) (at cost d)) (u .credit))
@@ -160,7 +185,7 @@ charged u cost = holding u (each (λ (d : ℕ). Ieee.sub binary64 (at (u .credit
 abbrev pub handed-back : Use → List Float → Use
 handed-back u cost = record {
   attempted = each (λ (d : ℕ). most (Ieee.sub binary64 (at (u .attempted) d) (at cost d)) nothing) (u .attempted);
-  credit = each (λ (d : ℕ). Ieee.add binary64 (at (u .credit) d) (at cost d)) (u .credit);
+  credit = each (λ (d : ℕ). credit-back (at (u .credit) d) (at cost d)) (u .credit);
   «at_ms» = u .«at_ms»;
   fresh = u .fresh;
 }
@@ -170,9 +195,14 @@ abbrev pub pick : Bool → Verdict → Verdict → Verdict
 pick true a b = a
 pick false a b = b
 
+abbrev pub within : Bool → Bool → Verdict
+within credit tokens = pick credit (pick tokens Admitted RelayRate) OverShare
+
+abbrev pub above : Bool → Bool → Bool → Verdict
+above credit tokens reserve = pick credit (pick tokens (pick reserve Admitted OverShare) OverShare) OverShare
+
 abbrev pub decided : Float → Bool → Bool → Bool → Verdict
-decided wants credit tokens reserve =
-    pick (Ieee.le wants one) (pick credit (pick tokens Admitted RelayRate) OverShare) (pick credit (pick tokens (pick reserve Admitted OverShare) OverShare) OverShare)
+decided wants credit tokens reserve = pick (Ieee.le wants one) (within credit tokens) (above credit tokens reserve)
 
 abbrev pub is-admitted : Verdict → Bool
 is-admitted Admitted = true
@@ -193,20 +223,10 @@ abbrev pub returned-all : List Bucket → List Float → List Bucket
 returned-all bs cost = upto (λ (d : ℕ). returned (bucket-at bs d) (at cost d)) dims bs
 
 abbrev pub suffice : List Bucket → List Float → Bool
-suffice bs cost = all (λ (d : ℕ). Ieee.le (at cost d) (bucket-at bs d .tokens)) dims
-
--- the mark that the furthest over must leave in the bucket, and whether the batch leaves it
-abbrev pub tenth : Float
-tenth = ofBits binary64 0x3fb9_9999_9999_999a
-
-abbrev pub millionth : Float
-millionth = ofBits binary64 0x3eb0_c6f7_a0b5_ed8d
-
-abbrev pub mark-of : Float → Float → Float
-mark-of wants rank = Ieee.mul binary64 tenth (Ieee.sub binary64 one (Ieee.div binary64 one (Ieee.mul binary64 wants (Ieee.add binary64 one (Ieee.mul binary64 rank millionth)))))
+suffice bs cost = all (λ (d : ℕ). tokens-hold (bucket-at bs d) (at cost d)) dims
 
 abbrev pub leaves : List Bucket → List Float → Float → Bool
-leaves bs cost mark = all (λ (d : ℕ). Ieee.le mark (Ieee.div binary64 (Ieee.sub binary64 (bucket-at bs d .tokens) (at cost d)) (bucket-at bs d .burst))) dims
+leaves bs cost mark = all (λ (d : ℕ). reserve-holds (bucket-at bs d) (at cost d) mark) dims
 
 -- ---- a judgement on a record that was found or added
 abbrev pub either : Bool → Outcome → Outcome → Outcome

@@ -73,6 +73,25 @@ pub fn fills(level: [f64; DIMS], rate: [f64; DIMS]) -> [f64; DIMS]
     out
 }
 
+// The time since `at`, none if that is not past.
+fn since(now: u64, at: u64) -> u64
+    ensures { λ r. ⌜ r ≡ now - at ⌝ }
+{
+    if at < now { now - at } else { 0 }
+}
+
+fn later(a: u64, b: u64) -> u64
+    ensures { λ r. ⌜ r ≡ max a b ⌝ }
+{
+    if a < b { b } else { a }
+}
+
+fn both(a: bool, b: bool) -> bool
+    ensures { λ r. ⌜ r ≡ a && b ⌝ }
+{
+    if a { b } else { false }
+}
+
 // ---- the bucket
 
 // The smaller of a ceiling and 2^40.
@@ -136,13 +155,7 @@ pub fn seconds(ms: u64) -> f64
     whole(ms) / 1000.0
 }
 
-// The time since `at`, none if that is not past.
-fn since(now: u64, at: u64) -> u64
-    ensures { λ r. ⌜ r ≡ now - at ⌝ }
-{
-    if at < now { now - at } else { 0 }
-}
-
+// A fresh unit's credit is full, another's is filled for the time since its last judgement, up to full.
 pub fn credit_of(fresh: bool, credit: f64, fill: f64, idle: u64) -> f64
     requires { ⌜ idle ≤ 2 ^ 53 ⌝ }
     ensures { λ r. ⌜ r ≡ flow.credit-of fresh credit fill idle ⌝ }
@@ -155,6 +168,14 @@ pub fn credit_of(fresh: bool, credit: f64, fill: f64, idle: u64) -> f64
     }
 }
 
+// What a hand-back makes of a credit: uncapped until the next judgement.
+fn credit_back(credit: f64, cost: f64) -> f64
+    ensures { λ r. ⌜ r ≡ flow.credit-back credit cost ⌝ }
+{
+    credit + cost
+}
+
+// A batch counts half of itself once the unit has a history: the sums are read just after it came.
 pub fn weight_of(fresh: bool, idle: u64) -> f64
     ensures { λ r. ⌜ r ≡ flow.weight-of fresh idle ⌝ }
 {
@@ -164,52 +185,71 @@ pub fn weight_of(fresh: bool, idle: u64) -> f64
     if 2000 <= idle { 1.0 } else { 0.5 }
 }
 
+// How many times the level the unit wants; this batch is in `attempted` already.
 pub fn want_of(weight: f64, attempted: f64, cost: f64, level: f64) -> f64
     ensures { λ r. ⌜ r ≡ flow.want-of weight attempted cost level ⌝ }
 {
     (attempted + (weight - 1.0) * cost) / 2.0 / level
 }
 
+// The three rules, each for one dimension.
+pub fn credit_holds(credit: f64, cost: f64) -> bool
+    ensures { λ r. ⌜ r ≡ flow.credit-holds credit cost ⌝ }
+{
+    cost <= credit
+}
+
+pub fn tokens_hold(b: Bucket, cost: f64) -> bool
+    ensures { λ r. ⌜ r ≡ flow.tokens-hold b cost ⌝ }
+{
+    cost <= b.tokens
+}
+
+// The part of the burst that is left reaches the mark.
+pub fn reserve_holds(b: Bucket, cost: f64, mark: f64) -> bool
+    ensures { λ r. ⌜ r ≡ flow.reserve-holds b cost mark ⌝ }
+{
+    mark <= (b.tokens - cost) / b.burst
+}
+
+// The mark rises with the want, by a hair with the rank: the furthest over is cut first.
+pub fn mark_of(wants: f64, rank: f64) -> f64
+    ensures { λ r. ⌜ r ≡ flow.mark-of wants rank ⌝ }
+{
+    0.1 * (1.0 - 1.0 / (wants * (1.0 + rank * 0.000001)))
+}
+
+fn pick(holds: bool, yes: Verdict, no: Verdict) -> Verdict
+    ensures { λ r. ⌜ r ≡ flow.pick holds yes no ⌝ }
+{
+    if holds { yes } else { no }
+}
+
+// Within the level: credit is asked before tokens.
+fn within(credit: bool, tokens: bool) -> Verdict
+    ensures { λ r. ⌜ r ≡ flow.within credit tokens ⌝ }
+{
+    let asked = pick(tokens, Verdict::Admitted, Verdict::RelayRate);
+    pick(credit, asked, Verdict::OverShare)
+}
+
+// Above the level: credit, tokens and reserve must all hold.
+fn above(credit: bool, tokens: bool, reserve: bool) -> Verdict
+    ensures { λ r. ⌜ r ≡ flow.above credit tokens reserve ⌝ }
+{
+    let left = pick(reserve, Verdict::Admitted, Verdict::OverShare);
+    let paid = pick(tokens, left, Verdict::OverShare);
+    pick(credit, paid, Verdict::OverShare)
+}
+
 pub fn decided(want: f64, credit: bool, tokens: bool, reserve: bool) -> Verdict
     ensures { λ r. ⌜ r ≡ flow.decided want credit tokens reserve ⌝ }
 {
     if want <= 1.0 {
-        if credit {
-            if tokens {
-                Verdict::Admitted
-            } else {
-                Verdict::RelayRate
-            }
-        } else {
-            Verdict::OverShare
-        }
+        within(credit, tokens)
     } else {
-        if credit {
-            if tokens {
-                if reserve {
-                    Verdict::Admitted
-                } else {
-                    Verdict::OverShare
-                }
-            } else {
-                Verdict::OverShare
-            }
-        } else {
-            Verdict::OverShare
-        }
+        above(credit, tokens, reserve)
     }
-}
-
-fn later(a: u64, b: u64) -> u64
-    ensures { λ r. ⌜ r ≡ max a b ⌝ }
-{
-    if a < b { b } else { a }
-}
-
-fn both(a: bool, b: bool) -> bool
-    ensures { λ r. ⌜ r ≡ a && b ⌝ }
-{
-    if a { b } else { false }
 }
 
 // ---- over the dimensions
@@ -227,14 +267,14 @@ pub fn want(weight: f64, attempted: [f64; DIMS], cost: [f64; DIMS], level: [f64;
     times
 }
 
-// Whether the cost is held in each dimension: by credit, or by tokens.
+// Whether the credit holds the cost in each dimension.
 pub fn covers(held: [f64; DIMS], cost: [f64; DIMS]) -> bool
     ensures { λ r. ⌜ r ≡ flow.covers held cost ⌝ }
 {
     let mut ok = true;
     let mut d = 0;
     while d < DIMS {
-        ok = both(ok, cost[d] <= held[d]);
+        ok = both(ok, credit_holds(held[d], cost[d]));
         d += 1;
     }
     ok
@@ -335,7 +375,7 @@ impl Use {
         let mut d = 0;
         while d < DIMS {
             self.attempted[d] = ieee::max(sums[d] - cost[d], 0.0);
-            self.credit[d] = held[d] + cost[d];
+            self.credit[d] = credit_back(held[d], cost[d]);
             d += 1;
         }
         self
@@ -392,18 +432,13 @@ pub fn suffice(buckets: [Bucket; DIMS], cost: [f64; DIMS]) -> bool
     let mut d = 0;
     while d < DIMS {
         let b = buckets[d];
-        ok = both(ok, cost[d] <= b.tokens);
+        ok = both(ok, tokens_hold(b, cost[d]));
         d += 1;
     }
     ok
 }
 
-fn mark_of(wants: f64, rank: f64) -> f64
-    ensures { λ r. ⌜ r ≡ flow.mark-of wants rank ⌝ }
-{
-    0.1 * (1.0 - 1.0 / (wants * (1.0 + rank * 0.000001)))
-}
-
+// Whether the reserve is left in each dimension.
 fn leaves(buckets: [Bucket; DIMS], cost: [f64; DIMS], mark: f64) -> bool
     ensures { λ r. ⌜ r ≡ flow.leaves buckets cost mark ⌝ }
 {
@@ -411,7 +446,7 @@ fn leaves(buckets: [Bucket; DIMS], cost: [f64; DIMS], mark: f64) -> bool
     let mut d = 0;
     while d < DIMS {
         let b = buckets[d];
-        ok = both(ok, mark <= (b.tokens - cost[d]) / b.burst);
+        ok = both(ok, reserve_holds(b, cost[d], mark));
         d += 1;
     }
     ok

@@ -10,3 +10,4 @@ pub mod Labels
 pub mod Fields
 pub mod Reading
 pub mod Parsing
+pub mod LabelCases

@@ -19,7 +19,7 @@ use Rattle.sender.specs.declared.label.Field.{Field}
 use Rattle.sender.specs.declared.label.Parsed as parsed
 use Rattle.sender.specs.declared.label.Parsed.the-variants.{Unit as Taken, Nothing}
 use Rattle.sender.specs.Label.{label, key-label, v4-label, v6-label}
-use Rattle.sender.specs.Parse.{digit, field, from, word-at, key-of, first-of, second-of, v4-of, v6-of, unit-in, is-label, parse, KeyFits, InRange}
+use Rattle.sender.specs.Parse.{digit, field, from, word-at, key-of, first-of, second-of, v4-of, v6-of, unit-in, is-label, parse, KeyFits, InRange, Exact}
 use Rattle.sender.proofs.Reading.{field-digits, first-value, second-value}
 
 -- a word printed is read back
@@ -105,3 +105,9 @@ parse-label s u e = by (is-label s) refl e
 pub label-parse : (u : unit.Unit) → InRange u → parse (label u) ≡ Taken u
 unfolding parse is-label
 label-parse u r = simp (unit-read u r, same-refl (label u))
+
+pub parse-exact : (s : List ℕ) → Exact s (parse s)
+parse-exact s = record { taken = parse-label s; every = λ u r e. rw e at (label-parse u r) }
+
+pub exact-of : (s : List ℕ) (r : parsed.Parsed) → r ≡ parse s → (r ≡ parse s) × Exact s r
+exact-of s r e = (e, rw e (parse-exact s))

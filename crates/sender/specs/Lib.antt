@@ -4,3 +4,4 @@ pub mod Sender
 pub mod Cases
 pub mod Label
 pub mod Parse
+pub mod LabelCases

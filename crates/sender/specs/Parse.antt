@@ -1,6 +1,7 @@
 -- A label read back. Definitions only. The fields are read without asking for their form, and the unit so read is taken
 -- only if its label is the text: so exactly the labels are taken.
 use Prim.Native.Nat.{ℕ, zero, suc, _+_, _-_, _*_, _%_, _<_}
+use mathlib.Core.Path.{_≡_}
 use mathlib.Core.Bool.{Bool, cond}
 use mathlib.Core.List.{List, [], _∷_}
 use lib.Dec.{eqb, ltb}
@@ -81,3 +82,8 @@ InRange (Grouped (V4 prefix)) = prefix < 65536
 InRange (Grouped (V6 prefix)) = prefix < 4294967296
 InRange NoAddress = Unit {0}
 InRange Overflow = Unit {0}
+
+-- r says exactly what s is: the unit whose label it is, where there is one
+pub record Exact (s : List ℕ) (r : parsed.Parsed) : Type 0 where
+  pub taken : (u : unit.Unit) → r ≡ Taken u → label u ≡ s
+  pub every : (u : unit.Unit) → InRange u → label u ≡ s → r ≡ Taken u

@@ -217,6 +217,7 @@ pub fn is_label(s: &[u8]) -> bool
 // The unit whose label s is.
 pub fn parse(s: &[u8]) -> Parsed
     ensures { λ r. ⌜ r ≡ parsing.parse (now (s .entry)) ⌝ }
+    ensures { λ r. ⌜ parsing.Exact (now (s .entry)) r ⌝ }
 {
     if is_label(s) {
         return Parsed::Unit(unit_in(s));

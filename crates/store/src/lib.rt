@@ -167,6 +167,23 @@ fn is_stale(hashes: &[u64], units: &[[u64; 7]], i: usize, table: usize, at_ms: u
     }
 }
 
+// The first of n records that is stale, else n.
+fn first_stale(hashes: &[u64], units: &[[u64; 7]], n: usize, table: usize, at_ms: u64) -> usize
+    requires { ⌜ n ≤ length (now hashes) ⌝ }
+    requires { ⌜ n ≤ length (now units) ⌝ }
+    ensures { λ r. ⌜ r ≡ store.first (store.is-stale (now (hashes .entry)) (now (units .entry)) table «at_ms») n ⌝ }
+    ensures { λ r. ⌜ r ≤ n ⌝ }
+{
+    let mut i = 0;
+    while i < n {
+        if is_stale(hashes, units, i, table, at_ms) {
+            return i;
+        }
+        i += 1;
+    }
+    n
+}
+
 // The record at i is moved to j, and i freed.
 fn moved(
     hashes: &mut [u64],
@@ -231,6 +248,8 @@ fn retain_one(
     j + 1
 }
 
+// Of n records those that are not stale stay, in their order; freed places become 0. Nothing is written up to the first
+// stale record, and past it a record that stays is copied once.
 pub fn retain(
     hashes: &mut [u64],
     units: &mut [[u64; 7]],
@@ -245,8 +264,8 @@ pub fn retain(
     ensures { λ r. ⌜ store.kept r (store.rows (now (hashes .exit)) (now (units .exit)) (now (uses .exit))) ≡ store.retained (store.rows (now (hashes .entry)) (now (units .entry)) (now (uses .entry))) table «at_ms» n ⌝ }
     ensures { λ r. ⌜ r ≤ n ⌝ }
 {
-    let mut i = 0;
-    let mut j = 0;
+    let mut i = first_stale(hashes, units, n, table, at_ms);
+    let mut j = i;
     while i < n {
         j = retain_one(hashes, units, uses, i, j, table, at_ms);
         i += 1;

@@ -23,11 +23,11 @@ length-word n = length-digits 16 16 n
 pub numeral-short : (base most n : ℕ) → length (numeral base most n) ≤ most
 unfolding numeral
 numeral-short base zero n = omega arith
-numeral-short base (suc most) n = shorter (ltb n base) (numeral base most (n / base)) (numeral-short base most (n / base))
+numeral-short base (suc most) n = shorter (ltb n base) _ _ (numeral base most (n / base)) (numeral-short base most (n / base))
   where
-    shorter : (t : Bool) (xs : List ℕ) → length xs ≤ most → length (cond t (glyph n ∷ []) (xs ++ (glyph (n % base) ∷ []))) ≤ suc most
-    shorter true xs h = omega arith
-    shorter false xs h = omega (arith, length-append xs (glyph (n % base) ∷ []))
+    shorter : (t : Bool) (x y : ℕ) (xs : List ℕ) → length xs ≤ most → length (cond t (x ∷ []) (xs ++ (y ∷ []))) ≤ suc most
+    shorter true x y xs h = omega arith
+    shorter false x y xs h = omega (arith, length-append xs (y ∷ []))
 
 -- the digits are suc k, no fewer hold n
 module _ (base : ℕ) (large : 1 < base) where

@@ -4,9 +4,9 @@ use mathlib.Core.Bool.{Bool, true, false, cond, false≢true}
 use mathlib.Core.List.{List, [], _∷_}
 use Prim.Native.Nat.{ℕ, suc, _+_, _≤_, _<_}
 use native.Mathlib.Numerals.{add-one}
-use native.Mathlib.Decide.{decLt}
+use native.Mathlib.Decide.{decLt, ℕ-discrete}
 use native.Mathlib.Omega.{arith}
-use borrow.Author.Tests.{eq-eqb, eqb-true, lt-ltb, le-ltb}
+use borrow.Author.Tests.{eq-eqb, ne-eqb, eqb-true, ltb-true, ltb-false, lt-ltb, le-ltb}
 use lib.Dec.{eqb, ltb}
 use lib.ListN.{length, getD, drop, drop-of-length-le}
 use lib.Seq.{drop-cons}
@@ -83,3 +83,56 @@ less-end a b i ha =
       | yes h ↦ goes-on b i h
       | no h ↦ over b i (omega arith) ∙ sym (le-ltb i (length b) (omega arith))
     ])
+
+-- the order is strict and total
+pub less-irrefl : (a : List ℕ) → less a a ≡ false
+unfolding less
+less-irrefl [] = refl
+less-irrefl (x ∷ a) = simp (eq-eqb x x refl) (less-irrefl a)
+
+-- strings whose first bytes are the same, and not
+less-same : (a b : List ℕ) {x y : ℕ} → x ≡ y → less (x ∷ a) (y ∷ b) ≡ less a b
+unfolding less
+less-same a b {x} {y} e = simp (eq-eqb x y e)
+
+less-other : (a b : List ℕ) {x y : ℕ} → (x ≡ y → ⊥) → less (x ∷ a) (y ∷ b) ≡ ltb x y
+unfolding less
+less-other a b {x} {y} n = simp (ne-eqb x y n)
+
+pub less-total : (a b : List ℕ) → less a b ≡ false → less b a ≡ false → a ≡ b
+unfolding less
+less-total [] [] h k = refl
+less-total [] (y ∷ b) h k = absurd (false≢true (sym h))
+less-total (x ∷ a) [] h k = absurd (false≢true (sym k))
+less-total (x ∷ a) (y ∷ b) h k =
+    elim (ℕ-discrete x y) [
+      | yes e ↦ let t = less-total a b (sym (less-same a b e) ∙ h) (sym (less-same b a (sym e)) ∙ k) in cc
+      | no n ↦
+          absurd (n (omega (arith, ltb-false x y (sym (less-other a b n) ∙ h), ltb-false y x (sym (less-other b a (λ e. n (sym e))) ∙ k))))
+    ]
+
+pub less-trans : (a b c : List ℕ) → less a b ≡ true → less b c ≡ true → less a c ≡ true
+unfolding less
+less-trans [] [] [] h k = h
+less-trans [] [] (z ∷ c) h k = refl
+less-trans [] (y ∷ b) [] h k = k
+less-trans [] (y ∷ b) (z ∷ c) h k = refl
+less-trans (x ∷ a) [] [] h k = h
+less-trans (x ∷ a) [] (z ∷ c) h k = absurd (false≢true h)
+less-trans (x ∷ a) (y ∷ b) [] h k = k
+less-trans (x ∷ a) (y ∷ b) (z ∷ c) h k =
+    elim (ℕ-discrete x y) [
+      | yes e ↦
+          elim (ℕ-discrete y z) [
+            | yes f ↦ less-same a c (e ∙ f) ∙ less-trans a b c (sym (less-same a b e) ∙ h) (sym (less-same b c f) ∙ k)
+            | no m ↦ before (omega (arith, ltb-true y z (sym (less-other b c m) ∙ k)))
+          ]
+      | no n ↦
+          elim (ℕ-discrete y z) [
+            | yes f ↦ before (omega (arith, ltb-true x y (sym (less-other a b n) ∙ h)))
+            | no m ↦ before (omega (arith, ltb-true x y (sym (less-other a b n) ∙ h), ltb-true y z (sym (less-other b c m) ∙ k)))
+          ]
+    ]
+  where
+    before : x < z → less (x ∷ a) (z ∷ c) ≡ true
+    before l = less-other a c (λ (e : x ≡ z). omega arith) ∙ lt-ltb x z l

@@ -1,11 +1,9 @@
 -- Document 01's cases hold of the definitions, by computing. Assumes nothing.
-use mathlib.Core.Path.{_≡_, refl, sym, ap, _∙_}
+use mathlib.Core.Path.{_≡_, refl, ap, _∙_}
 use mathlib.Core.List.{List, [], _∷_}
 use Prim.Native.Nat.{ℕ, _<_}
-use native.Mathlib.Omega.{arith}
-use lib.ListN.{length, getD, set, replicate, length-set, length-replicate, getD-replicate}
+use lib.ListN.{length, replicate, length-set, getD-replicate}
 use lib.Seq.{getD-set-same}
-use lib.Ieee as Ieee
 use lib.Ieee.{Float, ofBits, ofInt, add, sub, mul, div, lt, le, eq}
 use Rattle.flow.specs.Flow.{nothing}
 use Rattle.wants.specs.Bucket.{bucket-of, reaches, largest}

@@ -1,9 +1,9 @@
--- The table LEAST of src/lib.rt, and its rule at every entry, by one test that antt computes. Assumes nothing.
-use mathlib.Core.Path.{_≡_, refl, sym, subst}
+-- The table LEAST of src/bucket.rt, and its rule at every entry, by one test that antt computes. Assumes nothing.
+use mathlib.Core.Path.{_≡_, sym, subst}
 use mathlib.Core.Logic.{inl, inr}
 use mathlib.Core.Bool.{Bool, true, _&&_}
 use mathlib.Core.List.{List, [], _∷_}
-use Prim.Native.Nat.{ℕ, zero, suc, _+_, _-_, _*_, _^_, _≤_, _<_}
+use Prim.Native.Nat.{ℕ, zero, suc, _+_, _-_, _^_, _≤_, _<_}
 use native.Mathlib.Nat.{le-trans, lt-of-le-of-lt, le-of-suc-le-suc, not-suc-le-zero, eq-or-lt-of-le, pow-le-pow-left, pow-lt-pow-left}
 use native.Mathlib.Omega.{arith}
 use lib.Dec.{T, leb, ltb, leb→le, ltb→lt}
@@ -27,10 +27,10 @@ each f (suc n) t k h = elim (eq-or-lt-of-le (le-of-suc-le-suc h)) [
 -- ---- the table
 unfoldable pub table : List ℕ
 table =
-    4503599627370496 ∷ 4702991017412880 ∷ 4911210218475899 ∷ 5128648071143993 ∷
-    5355712719992598 ∷ 5592830379701283 ∷ 5840446135085608 ∷ 6099024776549418 ∷
-    6369051672525773 ∷ 6651033680544135 ∷ 6945500098633948 ∷ 7253003658850449 ∷
-    7574121564787630 ∷ 7909456575025821 ∷ 8259638134547592 ∷ 8625323556245722 ∷
+    0x10000000000000 ∷ 0x10b5586cf98910 ∷ 0x1172b83c7d517b ∷ 0x12387a6e756239 ∷
+    0x1306fe0a31b716 ∷ 0x13dea64c123423 ∷ 0x14bfdad5362a28 ∷ 0x15ab07dd48542a ∷
+    0x16a09e667f3bcd ∷ 0x17a11473eb0187 ∷ 0x18ace5422aa0dc ∷ 0x19c49182a3f091 ∷
+    0x1ae89f995ad3ae ∷ 0x1c199bdd85529d ∷ 0x1d5818dcfba488 ∷ 0x1ea4afa2a490da ∷
     []
 
 -- s is the least with 2 ^ (832 + j) ≤ s ^ 16

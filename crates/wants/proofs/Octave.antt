@@ -1,19 +1,17 @@
 -- A double above 1 by its bit pattern: it is infinite, or s × 2 ^ (o - 52) with a significand s of 53 digits and its octave o. Assumes nothing.
 use mathlib.Core.Path.{_≡_, refl, sym, ap, _∙_, subst}
-use mathlib.Core.Logic.{inl, inr}
 use mathlib.Core.Bool.{Bool, true, false, not, cond, true≢false}
 use Prim.Native.Nat.{ℕ, zero, suc, _+_, _-_, _*_, _/_, _%_, _^_, _≤_, _<_}
-use native.Mathlib.Nat.{le-of-lt, lt-of-lt-of-le, lt-trans, not-le-of-lt, le-of-eq, not-suc-le-zero, le-trans, lt-of-le-of-lt, mul-one, one-mul, mul-lt-mul-of-pos-right, mul-lt-mul-of-pos-left, mul-le-mul-right, lt-of-mul-lt-mul-right, mod-lt}
+use native.Mathlib.Nat.{le-of-lt, lt-of-lt-of-le, not-le-of-lt, le-of-eq, not-suc-le-zero, le-trans, mul-lt-mul-of-pos-left, mul-le-mul-right, lt-of-mul-lt-mul-right, mod-lt}
 use native.Mathlib.Decide.{decLe}
 use native.Mathlib.Omega.{arith}
 use borrow.Author.Tests.{ltb-true, eqb-true, eqb-false, leb-false}
-use lib.Dec.{T, leb, ltb, eqb, lit<, lit≤}
+use lib.Dec.{T, leb, eqb, lit<}
 use lib.Pow.{pow-add, pow-pos, pow-mono}
 use lib.Ieee as Ieee
 use lib.Ieee.{Float, nan, inf, fin, binary64, up, down, fits, odd, ofFields, ofBits, toBits}
-use lib.Ieee.Bits.{ofBits-toBits, toBits-lt}
+use lib.Ieee.Bits.{ofBits-toBits}
 use lib.Ieee.Exact.{HasValue, odd-sign}
-use lib.Ieee.Fits.{down-pos}
 use Rattle.flow.specs.Flow.{one}
 
 -- ---- what 1 < x says of a number of value a / c

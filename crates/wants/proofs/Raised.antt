@@ -1,33 +1,9 @@
 -- The sixteenth powers: the bucket of s × 2 ^ (o - 52) is 16 × o and the sixteenth that s stands in. Assumes nothing.
 use mathlib.Core.Path.{_≡_, refl, sym, ap, _∙_, subst}
 use mathlib.Core.Logic.{inl, inr}
-use mathlib.Core.Bool.{Bool, true, false, cond}
+use mathlib.Core.Bool.{true, false}
 use Prim.Native.Nat.{ℕ, zero, suc, _+_, _-_, _*_, _^_, _≤_, _<_}
-use native.Mathlib.Nat.{
-  le-trans,
-  le-of-eq,
-  le-of-suc-le-suc,
-  lt-of-lt-of-le,
-  lt-of-le-of-lt,
-  eq-or-lt-of-le,
-  mul-assoc,
-  mul-comm,
-  mul-left-comm,
-  mul-le-mul-right,
-  mul-lt-mul-of-pos-right,
-  mul-pos,
-  le-of-mul-le-mul-right,
-  lt-of-mul-lt-mul-right,
-  eq-of-mul-eq-mul-right,
-  pow-zero,
-  pow-suc,
-  pow-lt-pow-left,
-  zero-mul,
-  suc-mul,
-  le-refl,
-  not-le-of-lt,
-  le-suc,
-}
+use native.Mathlib.Nat.{le-trans, le-of-eq, le-of-suc-le-suc, lt-of-lt-of-le, eq-or-lt-of-le, mul-le-mul-right, mul-lt-mul-of-pos-right, mul-pos, le-of-mul-le-mul-right, lt-of-mul-lt-mul-right, eq-of-mul-eq-mul-right, pow-zero, pow-suc, pow-lt-pow-left, zero-mul, suc-mul, le-refl, not-le-of-lt, le-suc}
 use native.Mathlib.Omega.{arith}
 use borrow.Author.Tests.{le-leb, lt-leb}
 use lib.Pow.{pow-add, pow-pos, pow-mono}

@@ -65,7 +65,7 @@ impl Replay {
     }
 
     fn bucket(mut self) -> Self {
-        if wants::bucket_of(double_of(self.fields[0])) as u64 == self.fields[1] {
+        if wants::bucket::bucket_of(double_of(self.fields[0])) as u64 == self.fields[1] {
             self.buckets = one_more(self.buckets);
             return self;
         }

@@ -1,3 +1,4 @@
+-- `flow::credit_of` meets its contract. Assumes nothing.
 use borrow.Author.Needs.{needs}
 use Rattle.flow.proofs.credit_of.Statement.{statement}
 use Rattle.flow.proofs.credit_of.Tie as tie

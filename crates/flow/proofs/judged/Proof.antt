@@ -1,3 +1,4 @@
+-- `flow::judged` meets its contract. Assumes nothing.
 use Rattle.flow.proofs.Verdicts.{judged-is}
 use borrow.Author.Needs.{needs}
 use Rattle.flow.proofs.judged.Statement.{statement}

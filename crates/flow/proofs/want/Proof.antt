@@ -1,3 +1,4 @@
+-- `flow::want` meets its contract. The loop's invariant: the parts below d are the definition's. Assumes nothing.
 use mathlib.Core.Path.{_≡_}
 use Prim.Native.Nat.{ℕ, _≤_, _-_}
 use native.Mathlib.Omega.{arith}
@@ -6,9 +7,6 @@ use Rattle.flow.specs.Flow.{dims, at, want-of, largest}
 use Rattle.flow.proofs.Parts.{largest-none, largest-next}
 use Rattle.flow.proofs.want.Statement.{statement}
 use Rattle.flow.proofs.want.Tie as tie
-use Rattle.flow.proofs.want.Reads as reads
-use Rattle.flow.proofs.want.Lts as lts
-use Rattle.flow.proofs.want_of.Reads as want-of-reads
 
 abbrev Inv-loop : tie.InvT-loop
 Inv-loop weight attempted cost level times₀ d₀ times d = (d ≤ dims) × (times ≡ largest (λ (i : ℕ). want-of weight (at attempted i) (at cost i) (at level i)) d)

@@ -1,11 +1,8 @@
+-- `wants::add` meets its contract: both stores go to the want's bucket, in the dimension given. Assumes nothing.
 use Rattle.wants.specs.Wants.{added, one-more, plus}
 use borrow.Author.Needs.{needs}
 use Rattle.wants.proofs.add.Statement.{statement}
 use Rattle.wants.proofs.add.Tie as tie
-use Rattle.wants.proofs.add.Reads as reads
-use Rattle.wants.proofs.add.Lts as lts
-use Rattle.std.proofs.num.wrapping_add_u32.Reads as wrapping-add-u32-reads
-use Rattle.wants.proofs.bucket_of.Reads as bucket-of-reads
 
 bucket-of-requires : tie.Need-bucket-of-requires
 bucket-of-requires c κs = search needs

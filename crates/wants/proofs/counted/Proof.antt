@@ -1,22 +1,20 @@
+-- `wants::counted` meets its contract: the total is that of the buckets passed. Assumes nothing.
 use Rattle.wants.proofs.Steps.{counted-none, counted-next}
 use native.Mathlib.Omega.{arith}
-use Prim.Native.Nat.{ℕ, _≤_, _<_, _-_}
+use Prim.Native.Nat.{_≤_, _<_, _-_}
 use Rattle.wants.specs.Wants.{counted, dims}
 use mathlib.Core.List.{[]}
 use lib.ListN.{getD}
-use mathlib.Core.Path.{_≡_, refl, sym, ap, _∙_}
+use mathlib.Core.Path.{_≡_}
 use borrow.Author.Needs.{needs}
 use Rattle.wants.proofs.counted.Statement.{statement}
 use Rattle.wants.proofs.counted.Tie as tie
-use Rattle.wants.proofs.counted.Reads as reads
-use Rattle.wants.proofs.counted.Lts as lts
-use Rattle.wants.proofs.number.Reads as number-reads
 
 abbrev Inv-loop : tie.InvT-loop
-Inv-loop counts dim total₀ b₀ total b = (b ≤ 768) × (dim < dims) × (total ≡ counted (getD counts dim []) b)
+Inv-loop counts dim total₀ i₀ total i = (i ≤ 768) × (dim < dims) × (total ≡ counted (getD counts dim []) i)
 
 abbrev μ-loop : tie.MeasureT-loop
-μ-loop counts dim total₀ b₀ total b = 768 - b
+μ-loop counts dim total₀ i₀ total i = 768 - i
 
 loop-holds : tie.Need-loop-holds Inv-loop μ-loop
 loop-holds c = (search needs, search needs, simp counted-none)
@@ -36,8 +34,8 @@ index-2-number c = search needs
 number-requires : tie.Need-number-requires Inv-loop μ-loop
 number-requires c κs = search needs
 
-add-b : tie.Need-add-b Inv-loop μ-loop
-add-b c = search needs
+add-i : tie.Need-add-i Inv-loop μ-loop
+add-i c = search needs
 
 loop-less : tie.Need-loop-less Inv-loop μ-loop
 loop-less c = search needs
@@ -46,7 +44,7 @@ loop-again : tie.Need-loop-again Inv-loop μ-loop
 loop-again c = (search needs, search needs, simp (counted-next, c .number .ensures, c .before .before .before .loop .inv .2))
 
 returns : tie.Need-returns Inv-loop μ-loop
-returns c = let e : c .before .loop .b ≡ 768 = omega arith in simp (c .before .loop .inv .2, e)
+returns c = let e : c .before .loop .i ≡ 768 = omega arith in simp (c .before .loop .inv .2, e)
 
 pub counted-spec : {M : Type 1} → statement M
 counted-spec =
@@ -60,7 +58,7 @@ counted-spec =
     index-1-number
     index-2-number
     number-requires
-    add-b
+    add-i
     loop-less
     loop-again
     returns)

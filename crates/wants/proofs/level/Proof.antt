@@ -1,19 +1,14 @@
-use denote.Ref.{now}
+-- `wants::level` meets its contract: so far every bucket fits, with what is left and who remains. Assumes nothing.
 use Rattle.wants.proofs.Steps.{walked-next, empty, fitting, stopping, found-level}
-use Rattle.wants.specs.Wants.{dims, Walk, fits, stopped, next, walked, found, level}
+use Rattle.wants.specs.Wants.{dims, fits, walked, found, level}
 use mathlib.Core.List.{[]}
 use lib.ListN.{getD}
 use native.Mathlib.Omega.{arith}
-use Prim.Native.Nat.{ℕ, _≤_, _<_, _-_, _+_}
-use mathlib.Core.Path.{_≡_, refl, sym, ap, _∙_}
+use Prim.Native.Nat.{_≤_, _<_, _-_}
+use mathlib.Core.Path.{_≡_, sym, ap, _∙_}
 use borrow.Author.Needs.{needs}
 use Rattle.wants.proofs.level.Statement.{statement}
 use Rattle.wants.proofs.level.Tie as tie
-use Rattle.wants.proofs.level.Reads as reads
-use Rattle.wants.proofs.level.Lts as lts
-use Rattle.wants.proofs.counted.Reads as counted-reads
-use Rattle.wants.proofs.infinity.Reads as infinity-reads
-use Rattle.wants.proofs.number.Reads as number-reads
 
 abbrev Inv-loop : tie.InvT-loop
 Inv-loop counts sums dim rate left₀ remaining₀ b₀ left remaining b =

@@ -1,3 +1,4 @@
+-- `flow::Bucket::new` meets its contract. Assumes nothing.
 use borrow.Author.Needs.{needs}
 use Rattle.flow.proofs.Bucket.new.Statement.{statement}
 use Rattle.flow.proofs.Bucket.new.Tie as tie

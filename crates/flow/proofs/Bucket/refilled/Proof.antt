@@ -1,3 +1,4 @@
+-- `flow::Bucket::refilled` meets its contract. Assumes nothing.
 use borrow.Author.Needs.{needs}
 use Rattle.flow.proofs.Bucket.refilled.Statement.{statement}
 use Rattle.flow.proofs.Bucket.refilled.Tie as tie

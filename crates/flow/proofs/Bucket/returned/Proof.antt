@@ -1,3 +1,4 @@
+-- `flow::Bucket::returned` meets its contract. Assumes nothing.
 use borrow.Author.Needs.{needs}
 use Rattle.flow.proofs.Bucket.returned.Statement.{statement}
 use Rattle.flow.proofs.Bucket.returned.Tie as tie

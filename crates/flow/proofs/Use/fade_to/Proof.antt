@@ -1,3 +1,4 @@
+-- `flow::Use::fade_to` meets its contract. The loop's invariant: the parts below d are the definition's. Assumes nothing.
 use mathlib.Core.Path.{_≡_}
 use Prim.Native.Nat.{ℕ, _≤_, _-_}
 use native.Mathlib.Omega.{arith}

@@ -1,18 +1,17 @@
+-- `flow::Use::handed_back` meets its contract. The loop's invariant: the parts below d are the definition's. Assumes nothing.
 use mathlib.Core.Path.{_≡_}
 use Prim.Native.Nat.{ℕ, _≤_, _-_}
 use native.Mathlib.Omega.{arith}
 use borrow.Author.Needs.{needs}
-use lib.Ieee.{binary64, add, sub}
+use lib.Ieee.{binary64, sub}
 use Rattle.ieee.specs.Extremes.{most}
-use Rattle.flow.specs.Flow.{dims, at, upto, nothing, holding, trying}
+use Rattle.flow.specs.Flow.{dims, at, upto, nothing, holding, trying, credit-back}
 use Rattle.flow.proofs.Parts.{upto-none, upto-next}
 use Rattle.flow.proofs.Use.handed_back.Statement.{statement}
 use Rattle.flow.proofs.Use.handed_back.Tie as tie
-use Rattle.flow.proofs.Use.handed_back.Reads as reads
-use Rattle.flow.proofs.Use.handed_back.Lts as lts
 
 abbrev Inv-loop : tie.InvT-loop
-Inv-loop self₀ cost sums held d₀ self d = (d ≤ dims) × (self ≡ holding (trying self₀ (upto (λ (i : ℕ). most (sub binary64 (at sums i) (at cost i)) nothing) d sums)) (upto (λ (i : ℕ). add binary64 (at held i) (at cost i)) d held))
+Inv-loop self₀ cost sums held d₀ self d = (d ≤ dims) × (self ≡ holding (trying self₀ (upto (λ (i : ℕ). most (sub binary64 (at sums i) (at cost i)) nothing) d sums)) (upto (λ (i : ℕ). credit-back (at held i) (at cost i)) d held))
 
 abbrev μ-loop : tie.MeasureT-loop
 μ-loop self₀ cost sums held d₀ self d = dims - d
@@ -41,20 +40,23 @@ mul-self c = search needs
 element-write-self : tie.Need-element-write-self Inv-loop μ-loop
 element-write-self c = search needs
 
+mul-credit-back : tie.Need-mul-credit-back Inv-loop μ-loop
+mul-credit-back c = search needs
+
+array-read-credit-back : tie.Need-array-read-credit-back Inv-loop μ-loop
+array-read-credit-back c = search needs
+
+mul-credit-back-2 : tie.Need-mul-credit-back-2 Inv-loop μ-loop
+mul-credit-back-2 c = search needs
+
+array-read-credit-back-2 : tie.Need-array-read-credit-back-2 Inv-loop μ-loop
+array-read-credit-back-2 c = search needs
+
+credit-back-requires : tie.Need-credit-back-requires Inv-loop μ-loop
+credit-back-requires c κs = search needs
+
 mul-self-2 : tie.Need-mul-self-2 Inv-loop μ-loop
 mul-self-2 c = search needs
-
-array-read-self : tie.Need-array-read-self Inv-loop μ-loop
-array-read-self c = search needs
-
-mul-self-3 : tie.Need-mul-self-3 Inv-loop μ-loop
-mul-self-3 c = search needs
-
-array-read-self-2 : tie.Need-array-read-self-2 Inv-loop μ-loop
-array-read-self-2 c = search needs
-
-mul-self-4 : tie.Need-mul-self-4 Inv-loop μ-loop
-mul-self-4 c = search needs
 
 element-write-self-2 : tie.Need-element-write-self-2 Inv-loop μ-loop
 element-write-self-2 c = search needs
@@ -66,7 +68,7 @@ loop-less : tie.Need-loop-less Inv-loop μ-loop
 loop-less c = search needs
 
 loop-again : tie.Need-loop-again Inv-loop μ-loop
-loop-again c = (search needs, simp (upto-next, c .max .ensures, c .before .before .loop .inv .1))
+loop-again c = (search needs, simp (upto-next, c .credit-back .ensures, c .before .max .ensures, c .before .before .before .loop .inv .1))
 
 returns : tie.Need-returns Inv-loop μ-loop
 returns c = let e : c .before .loop .d ≡ dims = omega arith in simp (c .before .loop .inv .1, e)
@@ -85,11 +87,12 @@ handed-back-spec =
     max-requires
     mul-self
     element-write-self
+    mul-credit-back
+    array-read-credit-back
+    mul-credit-back-2
+    array-read-credit-back-2
+    credit-back-requires
     mul-self-2
-    array-read-self
-    mul-self-3
-    array-read-self-2
-    mul-self-4
     element-write-self-2
     add-d
     loop-less

@@ -1,14 +1,12 @@
--- `wants::sixteenth` meets its contract: the part lies from `low` and under `high`, which meet. Assumes nothing.
-use Prim.Native.Nat.{_+_, _-_, _≤_, _<_, _/_}
+-- `wants::bucket::sixteenth` meets its contract: the part lies from `low` and under `high`, which meet. Assumes nothing.
+use Prim.Native.Nat.{_+_, _-_, _≤_, _<_}
 use native.Mathlib.Omega.{arith}
-use mathlib.Core.Path.{_≡_, subst}
+use mathlib.Core.Path.{_≡_}
 use borrow.Author.Needs.{needs}
 use Rattle.wants.specs.Bucket.{From, Under}
 use Rattle.wants.proofs.Least.{table, from-at, under-at, from-first, under-last}
-use Rattle.wants.proofs.sixteenth.Statement.{statement}
-use Rattle.wants.proofs.sixteenth.Tie as tie
-use Rattle.wants.proofs.sixteenth.Reads as reads
-use Rattle.wants.proofs.sixteenth.Lts as lts
+use Rattle.wants.proofs.bucket.sixteenth.Statement.{statement}
+use Rattle.wants.proofs.bucket.sixteenth.Tie as tie
 
 abbrev Inv-loop : tie.InvT-loop
 Inv-loop s low₀ high₀ low high = (low < high) × (high ≤ 16) × From low s × Under high s

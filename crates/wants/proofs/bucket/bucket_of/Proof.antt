@@ -1,23 +1,20 @@
--- `wants::bucket_of` meets its contract: the exponent gives the octave, the significand its sixteenth. Assumes nothing.
-use mathlib.Core.Path.{_≡_, refl, sym, ap, _∙_, subst}
-use mathlib.Core.Bool.{true, false}
+-- `wants::bucket::bucket_of` meets its contract: the exponent gives the octave, the significand its sixteenth. Assumes nothing.
+use mathlib.Core.Path.{_≡_, sym, ap, _∙_, subst}
+use mathlib.Core.Bool.{true}
 use Prim.Native.Nat.{ℕ, _+_, _-_, _*_, _/_, _%_, _^_, _≤_, _<_}
 use native.Mathlib.Omega.{arith}
 use native.Mathlib.Decide.{decLe}
 use lib.Ieee as Ieee
 use lib.Ieee.{Float, binary64, fits, toBits}
-use lib.Dec.{T, lit<, lit≤}
+use lib.Dec.{T}
 use Rattle.flow.specs.Flow.{one}
 use Rattle.wants.specs.Bucket.{bucket-of, largest, Sixteenth}
 use Rattle.wants.proofs.Least.{from-first}
 use Rattle.wants.proofs.Octave.{Above, above, not-nan}
 use Rattle.wants.proofs.Raised.{within, beyond, endless}
 use borrow.Author.Needs.{needs}
-use Rattle.wants.proofs.bucket_of.Statement.{statement}
-use Rattle.wants.proofs.bucket_of.Tie as tie
-use Rattle.wants.proofs.bucket_of.Reads as reads
-use Rattle.wants.proofs.bucket_of.Lts as lts
-use Rattle.wants.proofs.sixteenth.Reads as sixteenth-reads
+use Rattle.wants.proofs.bucket.bucket_of.Statement.{statement}
+use Rattle.wants.proofs.bucket.bucket_of.Tie as tie
 
 -- what is known of a want above 1
 known : (x : Float) → fits binary64 x ≡ true → Ieee.lt one x ≡ true → Above x (toBits binary64 x / 2 ^ 52) (toBits binary64 x % 2 ^ 52)

@@ -1,0 +1,53 @@
+use Rattle.store.proofs.Steps.{first-none, first-next, first-found}
+use Rattle.store.specs.Store.{first, is-stale}
+use lib.ListN.{length}
+use borrow.Author.Needs.{needs}
+use native.Mathlib.Omega.{arith}
+use Prim.Native.Nat.{ℕ, _≤_, _<_, _-_, _+_}
+use mathlib.Core.Path.{_≡_, refl, sym, ap, _∙_}
+use Rattle.store.proofs.first_stale.Statement.{statement}
+use Rattle.store.proofs.first_stale.Tie as tie
+use Rattle.store.proofs.first_stale.Reads as reads
+use Rattle.store.proofs.first_stale.Lts as lts
+use Rattle.store.proofs.is_stale.Reads as is-stale-reads
+
+abbrev Inv-loop : tie.InvT-loop
+Inv-loop hashes units n table at-ms i₀ i = (i ≤ n) × (n ≤ length hashes) × (n ≤ length units) × (first (is-stale hashes units table at-ms) i ≡ i)
+
+abbrev μ-loop : tie.MeasureT-loop
+μ-loop hashes units n table at-ms i₀ i = n - i
+
+loop-holds : tie.Need-loop-holds Inv-loop μ-loop
+loop-holds c = (search needs, search needs, search needs, first-none _)
+
+is-stale-requires : tie.Need-is-stale-requires Inv-loop μ-loop
+is-stale-requires c κs = search needs
+
+returns : tie.Need-returns Inv-loop μ-loop
+returns c = (sym (first-found _ _ _ (c .before .before .loop-test .taken) (c .before .before .before .loop .inv .3) (sym (c .before .is-stale .ensures) ∙ c .if1 .taken)), search needs)
+
+add-i : tie.Need-add-i Inv-loop μ-loop
+add-i c = search needs
+
+loop-less : tie.Need-loop-less Inv-loop μ-loop
+loop-less c = search needs
+
+loop-again : tie.Need-loop-again Inv-loop μ-loop
+loop-again c = (search needs, search needs, search needs, first-next _ _ (c .before .before .before .loop .inv .3) (sym (c .before .is-stale .ensures) ∙ c .if1 .left))
+
+returns-2 : tie.Need-returns-2 Inv-loop μ-loop
+returns-2 c = let e : c .before .loop .i ≡ c .before .before .before .args .n = omega arith in (sym (rw e at (c .before .loop .inv .3)), search needs)
+
+pub first-stale-spec : {M : Type 1} → statement M
+first-stale-spec =
+    tie.close
+    (tie.spec
+    Inv-loop
+    μ-loop
+    loop-holds
+    is-stale-requires
+    returns
+    add-i
+    loop-less
+    loop-again
+    returns-2)
