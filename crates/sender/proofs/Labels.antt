@@ -1,16 +1,14 @@
 -- Labels as written: five texts one after the other, and no label is longer than a key's. Assumes nothing.
-use mathlib.Core.Path.{_≡_, refl, sym, ap, _∙_}
-use mathlib.Core.List.{List, [], _∷_, _++_}
-use Prim.Native.Nat.{ℕ, _+_, _/_, _%_, _≤_}
+use mathlib.Core.Path.{_≡_, ap, _∙_}
+use mathlib.Core.List.{List, [], _∷_}
+use Prim.Native.Nat.{ℕ, _+_, _≤_}
 use native.Mathlib.Omega.{arith}
 use lib.ListN.{length, take, length-append}
 use Rattle.io.specs.Counts.{Counts}
 use Rattle.text.specs.Page.{Page, page, write, writes, joined}
-use Rattle.text.specs.Number.{decimal, hexadecimal, word}
+use Rattle.text.specs.Number.{decimal, hexadecimal}
 use Rattle.text.proofs.Writing.{writes-joined, front}
-use Rattle.text.proofs.Numbers.{length-word, numeral-short}
-use Rattle.sender.specs.declared.PublicKey.{PublicKey}
-use Rattle.sender.specs.Label.{key-label, v4-label, v6-label}
+use Rattle.text.proofs.Numbers.{numeral-short}
 
 -- five texts joined, and their length
 module _ (a b c d e : List ℕ) where

@@ -2,13 +2,12 @@
 use mathlib.Core.Path.{_≡_, refl, sym, ap, _∙_}
 use mathlib.Core.Bool.{Bool, true, false, cond}
 use mathlib.Core.List.{List, [], _∷_, _++_, append-assoc}
-use Prim.Native.Nat.{ℕ, zero, suc, _+_, _-_, _*_, _/_, _%_, _^_, _≤_, _<_}
+use Prim.Native.Nat.{ℕ, _/_, _%_, _<_}
 use native.Mathlib.Nat.{div-add-mod', mod-lt, div-lt-iff-lt-mul, mod-eq-of-lt}
 use native.Mathlib.Omega.{arith}
 use lib.ListN.{length, length-append}
 use Rattle.text.specs.Page.{joined}
-use Rattle.text.specs.Number.{numeral, decimal, hexadecimal, word}
-use Rattle.text.specs.Order.{same}
+use Rattle.text.specs.Number.{decimal, hexadecimal, word}
 use Rattle.text.proofs.Numbers.{length-word}
 use Rattle.text.proofs.Orders.{same-refl, same-eq}
 use Rattle.sender.specs.declared.PublicKey.{PublicKey}
@@ -19,7 +18,7 @@ use Rattle.sender.specs.declared.label.Field.{Field}
 use Rattle.sender.specs.declared.label.Parsed as parsed
 use Rattle.sender.specs.declared.label.Parsed.the-variants.{Unit as Taken, Nothing}
 use Rattle.sender.specs.Label.{label, key-label, v4-label, v6-label}
-use Rattle.sender.specs.Parse.{digit, field, from, word-at, key-of, first-of, second-of, v4-of, v6-of, unit-in, is-label, parse, KeyFits, InRange, Exact}
+use Rattle.sender.specs.Parse.{digit, field, word-at, key-of, v4-of, v6-of, unit-in, is-label, parse, KeyFits, InRange, Exact}
 use Rattle.sender.proofs.Reading.{field-digits, first-value, second-value}
 
 -- a word printed is read back
@@ -92,13 +91,18 @@ unit-read (Grouped (V6 n)) r = ap (λ (x : ℕ). Grouped (V6 x)) (v6-read n r)
 unit-read NoAddress r = refl
 unit-read Overflow r = refl
 
+-- a text that is taken is the label of its fields' unit
+taken-is : (s : List ℕ) → is-label s ≡ true → label (unit-in s) ≡ s
+unfolding is-label
+taken-is s h = same-eq _ _ h
+
 -- what is taken prints to the same bytes
 pub parse-label : (s : List ℕ) (u : unit.Unit) → parse s ≡ Taken u → label u ≡ s
-unfolding parse is-label
+unfolding parse
 parse-label s u e = by (is-label s) refl e
   where
-    by : (t : Bool) → same (label (unit-in s)) s ≡ t → cond t (Taken (unit-in s)) Nothing ≡ Taken u → label u ≡ s
-    by true h k = let same-bytes = same-eq (label (unit-in s)) s h in cc
+    by : (t : Bool) → is-label s ≡ t → cond t (Taken (unit-in s)) Nothing ≡ Taken u → label u ≡ s
+    by true h k = let same-bytes = taken-is s h in cc
     by false h k = let z : _≡_ {A = ℕ} 0 1 = cc in absurd (omega arith)
 
 -- each label is taken

@@ -3,7 +3,7 @@
 use Prim.Native.Nat.{ℕ, zero, suc, _+_, _-_, _*_, _%_, _<_}
 use mathlib.Core.Path.{_≡_}
 use mathlib.Core.Bool.{Bool, cond}
-use mathlib.Core.List.{List, [], _∷_}
+use mathlib.Core.List.{List}
 use lib.Dec.{eqb, ltb}
 use lib.ListN.{getD}
 use Rattle.text.specs.Order.{same}
@@ -42,7 +42,7 @@ word-at s at = field 16 16 s (from at) .value
 unfoldable pub key-of : List ℕ → PublicKey
 key-of s = record { a = word-at s 4; b = word-at s 20; c = word-at s 36; d = word-at s 52 }
 
--- two fields of at most `most` digits from the third byte on, with one byte between
+-- two fields of at most `most` digits from place 3 on, with one byte between
 unfoldable pub first-of : ℕ → ℕ → List ℕ → Field
 first-of base most s = field base most s (from 3)
 

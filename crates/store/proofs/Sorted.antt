@@ -1,8 +1,8 @@
 -- The entry at an index of the ascending numbers is the largest x with no more than so many numbers below it. Assumes nothing.
-use mathlib.Core.Path.{_≡_, refl, sym, ap, _∙_}
+use mathlib.Core.Path.{_≡_, refl, ap, _∙_}
 use mathlib.Core.Bool.{Bool, true, false}
 use mathlib.Core.List.{List, [], _∷_}
-use Prim.Native.Nat.{ℕ, zero, suc, _+_, _≤_, _<_, _/_, max}
+use Prim.Native.Nat.{ℕ, zero, suc, _+_, _≤_, _<_, _/_}
 use native.Mathlib.Omega.{arith}
 use native.Mathlib.Decide.{decLe, decLt}
 use lib.Dec.{leb, ltb}
@@ -12,7 +12,7 @@ use Rattle.store.specs.Store.{keep-from}
 use Rattle.store.specs.Sorted.{pick, insert, sorted, one-if, below, highest}
 
 -- ---- sorting keeps the numbers: as many are below any x, and as many there are
-swap : (n : ℕ) (a b : Bool) → one-if (one-if n a) b ≡ one-if (one-if n b) a
+pub swap : (n : ℕ) (a b : Bool) → one-if (one-if n a) b ≡ one-if (one-if n b) a
 swap n true true = refl
 swap n true false = refl
 swap n false true = refl

@@ -1,9 +1,9 @@
 -- Rows of lent memory: where a record's parts lie, finding, adding, and dropping the stale of one table. Definitions only.
 use Prim.Native.Nat.{ℕ, zero, suc, _+_, _-_, _/_, _%_, _^_}
-use mathlib.Core.Bool.{Bool, true, false, _&&_, cond, not}
-use mathlib.Core.List.{List, [], _∷_}
+use mathlib.Core.Bool.{Bool, true, false, cond, not}
+use mathlib.Core.List.{List, [], _∷_, _++_, map}
 use lib.Dec.{eqb, ltb}
-use lib.ListN.{length, getD, set, replicate}
+use lib.ListN.{length, getD, set, replicate, take, drop}
 use lib.Ieee as Ieee
 use lib.Ieee.{Float}
 use Rattle.flow.specs.Flow as flow
@@ -105,12 +105,15 @@ table-at hashes i = sender.table-of-hash (getD hashes i 0)
 abbrev pub since : ℕ → ℕ → ℕ
 since now at = now - at
 
+-- of the table, and more than 8,000 milliseconds old
 unfoldable pub is-stale : List ℕ → List (List ℕ) → ℕ → ℕ → ℕ → Bool
 is-stale hashes units table now i = cond (eqb (table-at hashes i) table) (ltb 8000 (since now (stamp-at units i))) false
 
+-- a freed place is zero bits
 unfoldable pub freed : Rows → ℕ → Rows
 freed m i = record { hashes = set (m .hashes) i 0; units = set (m .units) i (replicate 7 0); uses = set (m .uses) i (replicate (dims + dims) nothing) }
 
+-- the record at i stands at j, and i is freed
 unfoldable pub moved : Rows → ℕ → ℕ → Rows
 moved m i j = record {
   hashes = set (set (m .hashes) i 0) j (getD (m .hashes) i 0);
@@ -136,11 +139,12 @@ retain-one k table now i =
     either (is-stale (k .rows .hashes) (k .rows .units) table now i) (kept (k .count) (freed (k .rows) i))
     (either (ltb (k .count) i) (kept (k .count + 1) (moved (k .rows) i (k .count))) (kept (k .count + 1) (k .rows)))
 
+-- the first n records, one after the other
 unfoldable pub retained : Rows → ℕ → ℕ → ℕ → Kept
 retained m table now zero = kept 0 m
 retained m table now (suc n) = retain-one (retained m table now n) table now n
 
--- ---- counted sources
+-- ---- counted sources: kind, four words, three counts
 abbrev pub counted-row : List (List ℕ) → ℕ → List ℕ
 counted-row rows i = getD rows i []
 
@@ -150,9 +154,11 @@ counted-is rows w i = same (words-at rows i) w
 unfoldable pub counted-find : List (List ℕ) → Words → ℕ → ℕ
 counted-find rows w n = first (counted-is rows w) n
 
+-- one more for a cause, modulo 2^64
 unfoldable pub counted-up : List (List ℕ) → ℕ → ℕ → List (List ℕ)
 counted-up rows i cause = set rows i (set (counted-row rows i) (5 + cause) ((getD (counted-row rows i) (5 + cause) 0 + 1) % 2 ^ 64))
 
+-- a source that is counted for nothing yet
 unfoldable pub counted-add : List (List ℕ) → ℕ → Words → List (List ℕ)
 counted-add rows i w = set rows i (w .kind ∷ w .a ∷ w .b ∷ w .c ∷ w .d ∷ 0 ∷ 0 ∷ 0 ∷ [])
 
@@ -168,32 +174,52 @@ abbrev pub choose : Bool → Sources → Sources → Sources
 choose true a b = a
 choose false a b = b
 
+-- of n sources the unit's is counted for a cause once more; it is added at the end where it is not among them
 unfoldable pub count : List (List ℕ) → ℕ → Words → ℕ → Sources
 count rows n w cause =
     choose (ltb (counted-find rows w n) n) (sources n (counted-up rows (counted-find rows w n) cause)) (sources (n + 1) (counted-up (counted-add rows n w) n cause))
 
 -- ---- leaving out the least counted
+-- a source's total: the sum of its three counts, modulo 2^64
+unfoldable pub total : List ℕ → ℕ
+total row = (getD row 5 0 + getD row 6 0 + getD row 7 0) % 2 ^ 64
+
 unfoldable pub total-at : List (List ℕ) → ℕ → ℕ
-total-at rows i = ((getD (counted-row rows i) 5 0 + getD (counted-row rows i) 6 0) % 2 ^ 64 + getD (counted-row rows i) 7 0) % 2 ^ 64
+total-at rows i = total (counted-row rows i)
 
 -- the totals of the first n sources
 unfoldable pub totals : List (List ℕ) → ℕ → List ℕ
-totals rows zero = []
-totals rows (suc n) = total-at rows n ∷ totals rows n
+totals rows n = map total (take n rows)
 
 -- of the ascending totals the one at index length / 4
 unfoldable pub keep-from : List ℕ → ℕ
 keep-from l = getD (sorted l) (length l / 4) 0
 
--- the source at i: moved to the end of those kept where its total is above k, else freed
+abbrev pub select : Bool → List (List ℕ) → List (List ℕ) → List (List ℕ)
+select true a b = a
+select false a b = b
+
+-- the sources whose total is above k, in their order
+unfoldable pub above : ℕ → List (List ℕ) → List (List ℕ)
+above k [] = []
+above k (row ∷ rows) = select (ltb k (total row)) (row ∷ above k rows) (above k rows)
+
+abbrev pub free : List ℕ
+free = replicate 8 0
+
+-- the kept sources in front, freed places up to n, and the rows behind n as they were
+abbrev pub left : List (List ℕ) → ℕ → List (List ℕ) → Sources
+left kept n behind = sources (length kept) (kept ++ (replicate (n - length kept) free ++ behind))
+
+-- of the first n sources those above k remain
+unfoldable pub prune : List (List ℕ) → ℕ → ℕ → Sources
+prune rows k n = left (above k (take n rows)) n (drop n rows)
+
+-- one source more: moved to the end of those kept where its total is above k, else freed
 unfoldable pub prune-one : Sources → ℕ → ℕ → Sources
 prune-one s k i =
-    choose (ltb k (total-at (s .rows) i)) (sources (s .count + 1) (set (set (s .rows) i (replicate 8 0)) (s .count) (counted-row (s .rows) i)))
-    (sources (s .count) (set (s .rows) i (replicate 8 0)))
-
-unfoldable pub prune : List (List ℕ) → ℕ → ℕ → Sources
-prune rows k zero = sources 0 rows
-prune rows k (suc n) = prune-one (prune rows k n) k n
+    choose (ltb k (total-at (s .rows) i)) (sources (s .count + 1) (set (set (s .rows) i free) (s .count) (counted-row (s .rows) i)))
+    (sources (s .count) (set (s .rows) i free))
 
 -- where every row is taken, the spare one too, only totals above k remain
 unfoldable pub pruned : Sources → Sources

@@ -4,6 +4,7 @@ ghost use Prim.Native.Nat.{_<_, _≤_, _+_};
 ghost use Rattle.store.specs.Store as store;
 use flow::DIMS;
 
+// The part for each dimension that begins at `from`.
 pub fn part(row: [f64; 2 * DIMS], from: usize) -> [f64; DIMS]
     requires { ⌜ from + store.dims ≤ store.dims + store.dims ⌝ }
     ensures { λ r. ⌜ r ≡ store.part row from ⌝ }
@@ -24,6 +25,7 @@ fn pick(a: [f64; DIMS], b: [f64; DIMS], i: usize) -> f64
     if i < DIMS { a[i] } else { b[i - DIMS] }
 }
 
+// Both parts one after the other.
 pub fn joined(a: [f64; DIMS], b: [f64; DIMS]) -> [f64; 2 * DIMS]
     ensures { λ r. ⌜ r ≡ store.joined a b ⌝ }
 {

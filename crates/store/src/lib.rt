@@ -17,7 +17,9 @@ use sender::Words;
 use totals::keep_from;
 pub use totals::total_at;
 
-// ---- a record
+// ---- a record: a hash, a row of the unit's words, stamp and fresh mark, and a row of floats
+
+// The unit that the record is of.
 pub fn words_at(units: &[[u64; 7]], i: usize) -> Words
     requires { ⌜ i < length (now units) ⌝ }
     ensures { λ r. ⌜ r ≡ store.words-at (now (units .entry)) i ⌝ }
@@ -32,6 +34,7 @@ pub fn words_at(units: &[[u64; 7]], i: usize) -> Words
     }
 }
 
+// Its use; a fresh mark is any word but 0.
 pub fn use_at(units: &[[u64; 7]], uses: &[[f64; 2 * DIMS]], i: usize) -> Use
     requires { ⌜ i < length (now units) ⌝ }
     requires { ⌜ i < length (now uses) ⌝ }
@@ -54,6 +57,7 @@ pub fn stamp_at(units: &[[u64; 7]], i: usize) -> u64
     units[i][5]
 }
 
+// The use put into the record; its unit stays.
 pub fn put_use(units: &mut [[u64; 7]], uses: &mut [[f64; 2 * DIMS]], i: usize, used: Use)
     requires { ⌜ i < length (now units) ⌝ }
     requires { ⌜ i < length (now uses) ⌝ }
@@ -69,6 +73,7 @@ pub fn put_use(units: &mut [[u64; 7]], uses: &mut [[f64; 2 * DIMS]], i: usize, u
     uses[i] = joined(attempted, credit);
 }
 
+// A record of the unit written at i.
 pub fn add(
     hashes: &mut [u64],
     units: &mut [[u64; 7]],
@@ -91,6 +96,8 @@ pub fn add(
 }
 
 // ---- find
+
+// The same unit: raw words are compared, so that a row of any bits is only itself.
 fn same(v: Words, w: Words) -> bool
     ensures { λ r. ⌜ r ≡ store.same v w ⌝ }
 {
@@ -142,6 +149,8 @@ pub fn find(hashes: &[u64], units: &[[u64; 7]], n: usize, name: Name) -> usize
 }
 
 // ---- retain: for one table, in one pass
+
+// The table of the record's hash word.
 pub fn table_at(hashes: &[u64], i: usize) -> usize
     requires { ⌜ i < length (now hashes) ⌝ }
     ensures { λ r. ⌜ r ≡ store.table-at (now (hashes .entry)) i ⌝ }
@@ -155,6 +164,7 @@ fn since(now: u64, at: u64) -> u64
     if at < now { now - at } else { 0 }
 }
 
+// Of the table and older than 8,000 milliseconds. The table is asked first: it reads the hash alone.
 fn is_stale(hashes: &[u64], units: &[[u64; 7]], i: usize, table: usize, at_ms: u64) -> bool
     requires { ⌜ i < length (now hashes) ⌝ }
     requires { ⌜ i < length (now units) ⌝ }
@@ -274,6 +284,7 @@ pub fn retain(
 }
 
 // ---- counted sources: kind, four words, three counts
+
 fn counted_words(counted: &[[u64; 8]], i: usize) -> Words
     requires { ⌜ i < length (now counted) ⌝ }
     ensures { λ r. ⌜ r ≡ store.words-at (now (counted .entry)) i ⌝ }
@@ -347,6 +358,7 @@ pub fn count(counted: &mut [[u64; 8]], n: usize, w: Words, cause: usize) -> usiz
 
 // ---- leaving out the least counted
 
+// The source at i: moved to j, the end of those kept, where its total is above k, else freed.
 fn prune_one(counted: &mut [[u64; 8]], i: usize, j: usize, k: u64) -> usize
     requires { ⌜ i < length (now counted) ⌝ }
     requires { ⌜ j ≤ i ⌝ }

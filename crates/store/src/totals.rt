@@ -5,6 +5,7 @@ ghost use lib.ListN.{length};
 ghost use Rattle.store.specs.Sorted as sorted;
 ghost use Rattle.store.specs.Store as store;
 
+// The sum of a source's three counts, which wraps.
 pub fn total_at(counted: &[[u64; 8]], i: usize) -> u64
     requires { ⌜ i < length (now counted) ⌝ }
     ensures { λ r. ⌜ r ≡ store.total-at (now (counted .entry)) i ⌝ }

@@ -1,15 +1,13 @@
-use Rattle.store.proofs.Steps.{first-none, first-next, first-found}
-use Rattle.store.specs.Store.{first, is-stale}
-use lib.ListN.{length}
+-- `store::first_stale` meets its contract. Assumes nothing.
+use Prim.Native.Nat.{_≤_, _-_}
 use borrow.Author.Needs.{needs}
+use lib.ListN.{length}
+use mathlib.Core.Path.{_≡_, sym, _∙_}
 use native.Mathlib.Omega.{arith}
-use Prim.Native.Nat.{ℕ, _≤_, _<_, _-_, _+_}
-use mathlib.Core.Path.{_≡_, refl, sym, ap, _∙_}
+use Rattle.store.specs.Store.{first, is-stale}
+use Rattle.store.proofs.Steps.{first-none, first-next, first-found}
 use Rattle.store.proofs.first_stale.Statement.{statement}
 use Rattle.store.proofs.first_stale.Tie as tie
-use Rattle.store.proofs.first_stale.Reads as reads
-use Rattle.store.proofs.first_stale.Lts as lts
-use Rattle.store.proofs.is_stale.Reads as is-stale-reads
 
 abbrev Inv-loop : tie.InvT-loop
 Inv-loop hashes units n table at-ms i₀ i = (i ≤ n) × (n ≤ length hashes) × (n ≤ length units) × (first (is-stale hashes units table at-ms) i ≡ i)

@@ -1,16 +1,13 @@
-use Rattle.store.proofs.Steps.{retained-first, retained-next}
-use Rattle.store.specs.Store.{rows, Kept, kept, retain-one, retained}
-use lib.ListN.{length}
+-- `store::retain` meets its contract. Assumes nothing.
+use Prim.Native.Nat.{_≤_, _-_}
 use borrow.Author.Needs.{needs}
-use native.Mathlib.Omega.{arith}
-use Prim.Native.Nat.{ℕ, _≤_, _<_, _-_, _+_}
+use lib.ListN.{length}
 use mathlib.Core.Path.{_≡_, refl, sym, ap, _∙_}
+use native.Mathlib.Omega.{arith}
+use Rattle.store.specs.Store.{rows, Kept, kept, retain-one, retained}
+use Rattle.store.proofs.Steps.{retained-first, retained-next}
 use Rattle.store.proofs.retain.Statement.{statement}
 use Rattle.store.proofs.retain.Tie as tie
-use Rattle.store.proofs.retain.Reads as reads
-use Rattle.store.proofs.retain.Lts as lts
-use Rattle.store.proofs.first_stale.Reads as first-stale-reads
-use Rattle.store.proofs.retain_one.Reads as retain-one-reads
 
 abbrev Inv-loop : tie.InvT-loop
 Inv-loop hashes₀ units₀ uses₀ n table at-ms i₀ j₀ hashes units uses i j = (i ≤ n) × (j ≤ i) × (n ≤ length hashes) × (length hashes ≡ length hashes₀) × (length units ≡ length units₀) × (length uses ≡ length uses₀) × (n ≤ length units) × (n ≤ length uses) × (kept j (rows hashes units uses) ≡ retained (rows hashes₀ units₀ uses₀) table at-ms i)

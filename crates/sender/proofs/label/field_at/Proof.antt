@@ -1,19 +1,13 @@
 -- `label::field_at` meets its contract. The loop's invariant: the rest of the reading gives what the whole gives, and the number has as many digits as were read.
 use mathlib.Core.Path.{_≡_, refl, sym, ap, _∙_}
-use Prim.Native.Nat.{ℕ, suc, _+_, _-_, _*_, _^_, _≤_, _<_}
-use native.Mathlib.Nat.{pow-zero, pow-le-pow-right}
+use Prim.Native.Nat.{suc, _+_, _-_, _^_, _≤_, _<_}
+use native.Mathlib.Nat.{pow-zero}
 use native.Mathlib.Omega.{arith}
-use lib.ListN.{getD}
 use denote.Ref.{now}
-use Rattle.sender.specs.declared.label.Field.{Field}
 use Rattle.sender.specs.Parse.{digit, field, from}
 use Rattle.sender.proofs.Fields.{field-stop, field-end, field-more, grown, grown-within, raised}
 use Rattle.sender.proofs.label.field_at.Statement.{statement}
 use Rattle.sender.proofs.label.field_at.Tie as tie
-use Rattle.sender.proofs.label.field_at.Reads as reads
-use Rattle.sender.proofs.label.field_at.Lts as lts
-use Rattle.sender.proofs.label.byte_at.Reads as byte-at-reads
-use Rattle.sender.proofs.label.digit.Reads as digit-reads
 
 abbrev Inv-loop : tie.InvT-loop
 Inv-loop s start base most value₀ at₀ left₀ value at left =

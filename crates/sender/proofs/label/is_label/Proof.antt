@@ -1,5 +1,5 @@
 -- `label::is_label` meets its contract.
-use mathlib.Core.Path.{_≡_, refl, sym, ap, _∙_}
+use mathlib.Core.Path.{_∙_}
 use Rattle.sender.specs.Parse.{is-label}
 use borrow.Author.Needs.{needs}
 use Rattle.sender.proofs.label.is_label.Statement.{statement}

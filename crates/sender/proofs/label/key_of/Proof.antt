@@ -1,5 +1,4 @@
 -- `label::key_of` meets its contract.
-use mathlib.Core.Path.{_≡_, refl, sym, ap, _∙_}
 use Rattle.sender.specs.Parse.{key-of}
 use borrow.Author.Needs.{needs}
 use Rattle.sender.proofs.label.key_of.Statement.{statement}

@@ -1,6 +1,5 @@
 -- `label::key_text` meets its contract: five texts put one after the other.
 use mathlib.Core.List.{[], _∷_}
-use Prim.Native.Nat.{_/_, _%_}
 use native.Mathlib.Omega.{arith}
 use mathlib.Core.Path.{_≡_}
 use lib.ListN.{length}
@@ -12,10 +11,6 @@ use Rattle.sender.specs.Label.{key-label}
 use borrow.Author.Needs.{needs}
 use Rattle.sender.proofs.label.key_text.Statement.{statement}
 use Rattle.sender.proofs.label.key_text.Tie as tie
-use Rattle.sender.proofs.label.key_text.Reads as reads
-use Rattle.sender.proofs.label.key_text.Lts as lts
-use Rattle.text.proofs.put.Reads as put-reads
-use Rattle.text.proofs.put_word.Reads as put-word-reads
 
 slice-aggregate-put : tie.Need-slice-aggregate-put
 slice-aggregate-put c = search needs

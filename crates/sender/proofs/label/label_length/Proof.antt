@@ -1,5 +1,5 @@
 -- `label::label_length` meets its contract.
-use mathlib.Core.Path.{_≡_, refl, sym, ap, _∙_}
+use mathlib.Core.Path.{ap, _∙_}
 use lib.ListN.{length}
 use borrow.Author.Needs.{needs}
 use Rattle.sender.proofs.label.label_length.Statement.{statement}

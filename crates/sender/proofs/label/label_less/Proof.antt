@@ -1,5 +1,5 @@
 -- `label::label_less` meets its contract.
-use mathlib.Core.Path.{_≡_, refl, sym, ap, _∙_}
+use mathlib.Core.Path.{_∙_}
 use Rattle.text.specs.Order.{less}
 use borrow.Author.Needs.{needs}
 use Rattle.sender.proofs.label.label_less.Statement.{statement}

@@ -1,9 +1,5 @@
 -- `label::label_text` meets its contract: by the unit's case.
-use mathlib.Core.Path.{_≡_, refl, sym, ap, _∙_}
-use mathlib.Core.List.{List, [], _∷_}
 use native.Mathlib.Omega.{arith}
-use denote.Ref.{now}
-use lib.ListN.{length}
 use Rattle.sender.specs.Label.{label}
 use Rattle.text.proofs.Writing.{front}
 use borrow.Author.Needs.{needs}

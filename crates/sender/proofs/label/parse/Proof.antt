@@ -1,5 +1,5 @@
 -- `label::parse` meets its contract: it is the definition, which takes exactly the labels.
-use mathlib.Core.Path.{_≡_, refl, sym, ap, _∙_}
+use mathlib.Core.Path.{_≡_, sym}
 use Rattle.sender.specs.Parse.{parse}
 use Rattle.sender.specs.declared.label.Parsed.the-variants.{Unit as Taken, Nothing}
 use Rattle.sender.proofs.Parsing.{exact-of}

@@ -1,6 +1,6 @@
 -- `label::unit_in` meets its contract: by the tests on the first two bytes.
-use mathlib.Core.Path.{_≡_, refl, sym, ap, _∙_}
-use borrow.Author.Tests.{eq-eqb, ne-eqb, lt-ltb, le-ltb}
+use mathlib.Core.Path.{sym}
+use borrow.Author.Tests.{eq-eqb, ne-eqb}
 use Rattle.sender.specs.Parse.{unit-in}
 use borrow.Author.Needs.{needs}
 use Rattle.sender.proofs.label.unit_in.Statement.{statement}

@@ -1,10 +1,8 @@
 -- `label::v4_of` meets its contract: two fields.
-use mathlib.Core.Path.{_≡_, refl, sym, ap, _∙_}
-use Prim.Native.Nat.{ℕ, _+_, _*_, _%_}
+use Prim.Native.Nat.{ℕ, _*_, _%_}
 use native.Mathlib.Omega.{arith}
 use denote.Ref.{now}
-use Rattle.sender.specs.declared.label.Field.{Field}
-use Rattle.sender.specs.Parse.{field, from, first-of, second-of, v4-of}
+use Rattle.sender.specs.Parse.{first-of, second-of, v4-of}
 use Rattle.sender.proofs.Fields.{two-fields}
 use borrow.Author.Needs.{needs}
 use Rattle.sender.proofs.label.v4_of.Statement.{statement}

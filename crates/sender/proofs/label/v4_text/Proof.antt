@@ -11,10 +11,6 @@ use Rattle.sender.specs.Label.{v4-label}
 use borrow.Author.Needs.{needs}
 use Rattle.sender.proofs.label.v4_text.Statement.{statement}
 use Rattle.sender.proofs.label.v4_text.Tie as tie
-use Rattle.sender.proofs.label.v4_text.Reads as reads
-use Rattle.sender.proofs.label.v4_text.Lts as lts
-use Rattle.text.proofs.put.Reads as put-reads
-use Rattle.text.proofs.put_decimal.Reads as put-decimal-reads
 
 slice-aggregate-put : tie.Need-slice-aggregate-put
 slice-aggregate-put c = search needs

@@ -1,5 +1,5 @@
 -- `label::word_at` meets its contract.
-use mathlib.Core.Path.{_≡_, refl, sym, ap, _∙_}
+use mathlib.Core.Path.{ap}
 use Rattle.sender.specs.Parse.{word-at}
 use Rattle.sender.specs.declared.label.Field.{Field}
 use borrow.Author.Needs.{needs}

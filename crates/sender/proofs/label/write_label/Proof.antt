@@ -1,5 +1,5 @@
 -- `label::write_label` meets its contract: the label is put from a buffer of its own.
-use mathlib.Core.Path.{_≡_, refl, sym, ap, _∙_}
+use mathlib.Core.Path.{ap, _∙_}
 use denote.Ref.{now}
 use Rattle.text.specs.Page.{page, write}
 use borrow.Author.Needs.{needs}

@@ -6,7 +6,7 @@ use mathlib.Core.Path.{_≡_, sym}
 use native.Mathlib.Omega.{arith}
 use Rattle.store.specs.Sorted as sorted
 use Rattle.store.specs.Store.{totals}
-use Rattle.store.proofs.Steps.{below-none, below-next}
+use Rattle.store.proofs.Pruning.{below-none, below-next}
 use Rattle.store.proofs.totals.below.Statement.{statement}
 use Rattle.store.proofs.totals.below.Tie as tie
 
@@ -32,7 +32,7 @@ loop-less : tie.Need-loop-less Inv-loop μ-loop
 loop-less c = search needs
 
 loop-again : tie.Need-loop-again Inv-loop μ-loop
-loop-again c = (search needs, omega (arith, c .one-if .ensures .1), search needs, simp (below-next, c .one-if .ensures .0, c .before .total-at .ensures, sym (c .before .before .before .loop .inv .3)))
+loop-again c = (search needs, omega (arith, c .one-if .ensures .1), search needs, simp (below-next (c .before .before .before .before .args .counted .now) (c .before .before .before .before .args .x) (c .before .before .before .loop .i) (omega arith), c .one-if .ensures .0, c .before .total-at .ensures, sym (c .before .before .before .loop .inv .3)))
 
 returns : tie.Need-returns Inv-loop μ-loop
 returns c = let e : c .before .loop .i ≡ c .before .before .args .n = omega arith in simp (c .before .loop .inv .3, e)

@@ -6,7 +6,7 @@ use mathlib.Core.Path.{_≡_, sym}
 use native.Mathlib.Omega.{arith}
 use Rattle.store.specs.Sorted as sorted
 use Rattle.store.specs.Store.{totals}
-use Rattle.store.proofs.Steps.{highest-none, highest-next}
+use Rattle.store.proofs.Pruning.{highest-none, highest-next}
 use Rattle.store.proofs.totals.highest.Statement.{statement}
 use Rattle.store.proofs.totals.highest.Tie as tie
 
@@ -32,7 +32,7 @@ loop-less : tie.Need-loop-less Inv-loop μ-loop
 loop-less c = search needs
 
 loop-again : tie.Need-loop-again Inv-loop μ-loop
-loop-again c = (search needs, search needs, simp (highest-next, c .larger .ensures, c .before .total-at .ensures, sym (c .before .before .before .loop .inv .2)))
+loop-again c = (search needs, search needs, simp (highest-next (c .before .before .before .before .args .counted .now) (c .before .before .before .loop .i) (omega arith), c .larger .ensures, c .before .total-at .ensures, sym (c .before .before .before .loop .inv .2)))
 
 returns : tie.Need-returns Inv-loop μ-loop
 returns c = let e : c .before .loop .i ≡ c .before .before .args .n = omega arith in simp (c .before .loop .inv .2, e)

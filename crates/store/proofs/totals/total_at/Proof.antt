@@ -1,6 +1,7 @@
 -- `store::totals::total_at` meets its contract. Assumes nothing.
+use native.Mathlib.Nat.{mod-add-mod}
 use borrow.Author.Needs.{needs}
-use Rattle.store.specs.Store.{total-at}
+use Rattle.store.specs.Store.{total-at, total}
 use Rattle.store.proofs.totals.total_at.Statement.{statement}
 use Rattle.store.proofs.totals.total_at.Tie as tie
 
@@ -26,8 +27,8 @@ wrapping-add-u64-requires-2 : tie.Need-wrapping-add-u64-requires-2
 wrapping-add-u64-requires-2 c κs = search needs
 
 returns : tie.Need-returns
-unfolding total-at
-returns c = simp (c .wrapping-add-u642 .ensures, c .before .wrapping-add-u64 .ensures)
+unfolding total-at total
+returns c = simp (c .wrapping-add-u642 .ensures, c .before .wrapping-add-u64 .ensures, mod-add-mod)
 
 pub total-at-spec : {M : Type 1} → statement M
 total-at-spec =

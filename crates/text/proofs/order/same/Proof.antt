@@ -1,10 +1,9 @@
 -- `text::same` meets its contract. The loop's invariant: what is left of the two strings compares as the whole strings do.
-use mathlib.Core.Path.{_≡_, refl, sym, ap, _∙_}
-use mathlib.Core.List.{[]}
+use mathlib.Core.Path.{_≡_, refl, sym, _∙_}
 use Prim.Native.Nat.{_-_, _≤_}
 use native.Mathlib.Omega.{arith}
 use borrow.Author.Tests.{eq-eqb, ne-eqb}
-use lib.ListN.{length, drop, drop-of-length-le}
+use lib.ListN.{length, drop}
 use denote.Ref.{now}
 use Rattle.text.specs.Order.{same}
 use Rattle.text.proofs.Orders.{same-at, same-length, same-nil}
