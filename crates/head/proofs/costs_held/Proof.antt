@@ -1,0 +1,60 @@
+use Rattle.head.specs.Questions.{costs-held}
+use lib.Dec.{leb}
+use lib.ListN.{getD, replicate}
+use Rattle.flow.proofs.Parts.{upto-none, upto-next, all-none, all-next}
+use Rattle.flow.specs.Flow.{dims, at, upto, all, nothing}
+use native.Mathlib.Omega.{arith}
+use Prim.Native.Nat.{ℕ, _≤_, _<_, _-_, _+_}
+use mathlib.Core.Path.{_≡_, refl, sym, ap, _∙_}
+use borrow.Author.Needs.{needs}
+use Rattle.head.proofs.costs_held.Statement.{statement}
+use Rattle.head.proofs.costs_held.Tie as tie
+use Rattle.head.proofs.costs_held.Reads as reads
+use Rattle.head.proofs.costs_held.Lts as lts
+use Rattle.head.proofs.both.Reads as both-reads
+
+abbrev Inv-loop : tie.InvT-loop
+Inv-loop xs ok₀ d₀ ok d = (d ≤ dims) × (ok ≡ all (λ (i : ℕ). leb (getD xs i 0) 1099511627776) d)
+
+abbrev μ-loop : tie.MeasureT-loop
+μ-loop xs ok₀ d₀ ok d = dims - d
+
+loop-holds : tie.Need-loop-holds Inv-loop μ-loop
+loop-holds c = (search needs, simp all-none)
+
+mul-both : tie.Need-mul-both Inv-loop μ-loop
+mul-both c = search needs
+
+array-read-both : tie.Need-array-read-both Inv-loop μ-loop
+array-read-both c = search needs
+
+both-requires : tie.Need-both-requires Inv-loop μ-loop
+both-requires c κs = search needs
+
+add-d : tie.Need-add-d Inv-loop μ-loop
+add-d c = search needs
+
+loop-less : tie.Need-loop-less Inv-loop μ-loop
+loop-less c = search needs
+
+loop-again : tie.Need-loop-again Inv-loop μ-loop
+loop-again c = (search needs, simp (all-next, c .both .ensures, c .before .before .loop .inv .1))
+
+returns : tie.Need-returns Inv-loop μ-loop
+unfolding costs-held
+returns c = let e : c .before .loop .d ≡ dims = omega arith in simp (c .before .loop .inv .1, e)
+
+pub costs-held-spec : {M : Type 1} → statement M
+costs-held-spec =
+    tie.close
+    (tie.spec
+    Inv-loop
+    μ-loop
+    loop-holds
+    mul-both
+    array-read-both
+    both-requires
+    add-d
+    loop-less
+    loop-again
+    returns)

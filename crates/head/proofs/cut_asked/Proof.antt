@@ -1,0 +1,47 @@
+use Rattle.head.specs.Questions.{cut-asked}
+use mathlib.Core.Path.{_≡_, refl, sym, ap, _∙_}
+use borrow.Author.Needs.{needs}
+use Rattle.head.proofs.cut_asked.Statement.{statement}
+use Rattle.head.proofs.cut_asked.Tie as tie
+use Rattle.head.proofs.cut_asked.Reads as reads
+use Rattle.head.proofs.cut_asked.Lts as lts
+use Rattle.head.proofs.costs_held.Reads as costs-held-reads
+use Rattle.head.proofs.head_whole.Reads as head-whole-reads
+use Rattle.head.proofs.memory_whole.Reads as memory-whole-reads
+
+head-whole-requires : tie.Need-head-whole-requires
+head-whole-requires c κs = search needs
+
+memory-whole-requires : tie.Need-memory-whole-requires
+memory-whole-requires c κs = search needs
+
+costs-held-requires : tie.Need-costs-held-requires
+costs-held-requires c κs = search needs
+
+returns : tie.Need-returns
+unfolding cut-asked
+returns c = simp (sym (c .before .before .before .before .before .head-whole .ensures), c .before .before .before .before .if1 .taken, sym (c .before .before .before .memory-whole .ensures), c .before .before .if2 .taken, sym (c .before .costs-held .ensures), c .if3 .taken)
+
+returns-2 : tie.Need-returns-2
+unfolding cut-asked
+returns-2 c = simp (sym (c .before .before .before .before .before .head-whole .ensures), c .before .before .before .before .if1 .taken, sym (c .before .before .before .memory-whole .ensures), c .before .before .if2 .taken, sym (c .before .costs-held .ensures), c .if3 .left)
+
+returns-3 : tie.Need-returns-3
+unfolding cut-asked
+returns-3 c = simp (sym (c .before .before .before .head-whole .ensures), c .before .before .if1 .taken, sym (c .before .memory-whole .ensures), c .if2 .left)
+
+returns-4 : tie.Need-returns-4
+unfolding cut-asked
+returns-4 c = simp (sym (c .before .head-whole .ensures), c .if1 .left)
+
+pub cut-asked-spec : {M : Type 1} → statement M
+cut-asked-spec =
+    tie.close
+    (tie.spec
+    head-whole-requires
+    memory-whole-requires
+    costs-held-requires
+    returns
+    returns-2
+    returns-3
+    returns-4)

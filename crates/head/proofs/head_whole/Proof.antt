@@ -1,0 +1,60 @@
+use Rattle.head.specs.Questions.{head-whole}
+use mathlib.Core.Path.{_≡_, refl, sym, ap, _∙_}
+use borrow.Author.Needs.{needs}
+use Rattle.head.proofs.head_whole.Statement.{statement}
+use Rattle.head.proofs.head_whole.Tie as tie
+use Rattle.head.proofs.head_whole.Reads as reads
+use Rattle.head.proofs.head_whole.Lts as lts
+use Rattle.head.proofs.all_rates.Reads as all-rates-reads
+use Rattle.head.proofs.both.Reads as both-reads
+use Rattle.head.proofs.either.Reads as either-reads
+use Rattle.head.proofs.is_unbounded.Reads as is-unbounded-reads
+use Rattle.head.proofs.rooms_whole.Reads as rooms-whole-reads
+use Rattle.head.proofs.stamps_whole.Reads as stamps-whole-reads
+use Rattle.head.proofs.tables_whole.Reads as tables-whole-reads
+
+is-unbounded-requires : tie.Need-is-unbounded-requires
+is-unbounded-requires c κs = search needs
+
+all-rates-requires : tie.Need-all-rates-requires
+all-rates-requires c κs = search needs
+
+either-requires : tie.Need-either-requires
+either-requires c κs = search needs
+
+stamps-whole-requires : tie.Need-stamps-whole-requires
+stamps-whole-requires c κs = search needs
+
+tables-whole-requires : tie.Need-tables-whole-requires
+tables-whole-requires c κs = search needs
+
+rooms-whole-requires : tie.Need-rooms-whole-requires
+rooms-whole-requires c κs = search needs
+
+both-requires : tie.Need-both-requires
+both-requires c κs = search needs
+
+both-requires-2 : tie.Need-both-requires-2
+both-requires-2 c κs = search needs
+
+both-requires-3 : tie.Need-both-requires-3
+both-requires-3 c κs = search needs
+
+returns : tie.Need-returns
+unfolding head-whole
+returns c = simp (c .both3 .ensures, c .before .both2 .ensures, c .before .before .both .ensures, c .before .before .before .rooms-whole .ensures, c .before .before .before .before .tables-whole .ensures, c .before .before .before .before .before .stamps-whole .ensures, c .before .before .before .before .before .before .either .ensures, c .before .before .before .before .before .before .before .all-rates .ensures, c .before .before .before .before .before .before .before .before .is-unbounded .ensures)
+
+pub head-whole-spec : {M : Type 1} → statement M
+head-whole-spec =
+    tie.close
+    (tie.spec
+    is-unbounded-requires
+    all-rates-requires
+    either-requires
+    stamps-whole-requires
+    tables-whole-requires
+    rooms-whole-requires
+    both-requires
+    both-requires-2
+    both-requires-3
+    returns)

@@ -1,0 +1,57 @@
+use Rattle.head.specs.Questions.{judge-asked}
+use mathlib.Core.Path.{_≡_, refl, sym, ap, _∙_}
+use borrow.Author.Needs.{needs}
+use Rattle.head.proofs.judge_asked.Statement.{statement}
+use Rattle.head.proofs.judge_asked.Tie as tie
+use Rattle.head.proofs.judge_asked.Reads as reads
+use Rattle.head.proofs.judge_asked.Lts as lts
+use Rattle.head.proofs.costs_held.Reads as costs-held-reads
+use Rattle.head.proofs.head_whole.Reads as head-whole-reads
+use Rattle.head.proofs.is_stamp.Reads as is-stamp-reads
+use Rattle.head.proofs.memory_whole.Reads as memory-whole-reads
+
+head-whole-requires : tie.Need-head-whole-requires
+head-whole-requires c κs = search needs
+
+memory-whole-requires : tie.Need-memory-whole-requires
+memory-whole-requires c κs = search needs
+
+costs-held-requires : tie.Need-costs-held-requires
+costs-held-requires c κs = search needs
+
+is-stamp-requires : tie.Need-is-stamp-requires
+is-stamp-requires c κs = search needs
+
+returns : tie.Need-returns
+unfolding judge-asked
+returns c = simp (sym (c .before .before .before .before .before .before .before .head-whole .ensures), c .before .before .before .before .before .before .if1 .taken, sym (c .before .before .before .before .before .memory-whole .ensures), c .before .before .before .before .if2 .taken, sym (c .before .before .before .costs-held .ensures), c .before .before .if3 .taken, sym (c .before .is-stamp .ensures), c .if4 .taken)
+
+returns-2 : tie.Need-returns-2
+unfolding judge-asked
+returns-2 c = simp (sym (c .before .before .before .before .before .before .before .head-whole .ensures), c .before .before .before .before .before .before .if1 .taken, sym (c .before .before .before .before .before .memory-whole .ensures), c .before .before .before .before .if2 .taken, sym (c .before .before .before .costs-held .ensures), c .before .before .if3 .taken, sym (c .before .is-stamp .ensures), c .if4 .left)
+
+returns-3 : tie.Need-returns-3
+unfolding judge-asked
+returns-3 c = simp (sym (c .before .before .before .before .before .head-whole .ensures), c .before .before .before .before .if1 .taken, sym (c .before .before .before .memory-whole .ensures), c .before .before .if2 .taken, sym (c .before .costs-held .ensures), c .if3 .left)
+
+returns-4 : tie.Need-returns-4
+unfolding judge-asked
+returns-4 c = simp (sym (c .before .before .before .head-whole .ensures), c .before .before .if1 .taken, sym (c .before .memory-whole .ensures), c .if2 .left)
+
+returns-5 : tie.Need-returns-5
+unfolding judge-asked
+returns-5 c = simp (sym (c .before .head-whole .ensures), c .if1 .left)
+
+pub judge-asked-spec : {M : Type 1} → statement M
+judge-asked-spec =
+    tie.close
+    (tie.spec
+    head-whole-requires
+    memory-whole-requires
+    costs-held-requires
+    is-stamp-requires
+    returns
+    returns-2
+    returns-3
+    returns-4
+    returns-5)

@@ -1,0 +1,26 @@
+use Rattle.head.specs.Questions.{memory-whole}
+use borrow.Author.Tests.{eq-eqb, ne-eqb, lt-ltb, le-ltb, eqb-true, le-leb, lt-leb}
+use mathlib.Core.Path.{_≡_, refl, sym, ap, _∙_}
+use Rattle.head.proofs.memory_whole.Statement.{statement}
+use Rattle.head.proofs.memory_whole.Tie as tie
+use Rattle.head.proofs.memory_whole.Reads as reads
+use Rattle.head.proofs.memory_whole.Lts as lts
+
+returns : tie.Need-returns
+unfolding memory-whole
+returns c = simp (eq-eqb _ _ (c .before .before .before .before .before .if1 .taken), eq-eqb _ _ (c .before .before .before .if2 .taken), eq-eqb _ _ (c .before .if3 .taken))
+
+returns-2 : tie.Need-returns-2
+unfolding memory-whole
+returns-2 c = simp (eq-eqb _ _ (c .before .before .before .before .if1 .taken), eq-eqb _ _ (c .before .before .if2 .taken), ne-eqb _ _ (c .if3 .left))
+
+returns-3 : tie.Need-returns-3
+unfolding memory-whole
+returns-3 c = simp (eq-eqb _ _ (c .before .before .if1 .taken), ne-eqb _ _ (c .if2 .left))
+
+returns-4 : tie.Need-returns-4
+unfolding memory-whole
+returns-4 c = simp (ne-eqb _ _ (c .if1 .left))
+
+pub memory-whole-spec : {M : Type 1} → statement M
+memory-whole-spec = tie.close (tie.spec returns returns-2 returns-3 returns-4)

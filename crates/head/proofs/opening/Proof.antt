@@ -1,0 +1,32 @@
+use Rattle.head.specs.Start.{opening}
+use mathlib.Core.Path.{_≡_, refl, sym, ap, _∙_}
+use borrow.Author.Needs.{needs}
+use Rattle.head.proofs.opening.Statement.{statement}
+use Rattle.head.proofs.opening.Tie as tie
+use Rattle.head.proofs.opening.Reads as reads
+use Rattle.head.proofs.opening.Lts as lts
+use Rattle.flow.proofs.Use.new.Reads as new-reads
+use Rattle.head.proofs.buckets.Reads as buckets-reads
+use Rattle.head.proofs.first_levels.Reads as first-levels-reads
+use Rattle.flow.proofs.numbers.Reads as numbers-reads
+
+buckets-requires : tie.Need-buckets-requires
+buckets-requires c κs = search needs
+
+numbers-requires : tie.Need-numbers-requires
+numbers-requires c κs = search needs
+
+first-levels-requires : tie.Need-first-levels-requires
+first-levels-requires c κs = search needs
+
+new-requires : tie.Need-new-requires
+new-requires c κs = search needs
+
+returns : tie.Need-returns
+unfolding opening
+returns c = simp (c .before .before .before .buckets .ensures, c .before .first-levels .ensures, c .before .before .numbers .ensures, c .new .ensures)
+
+pub opening-spec : {M : Type 1} → statement M
+opening-spec =
+    tie.close
+    (tie.spec buckets-requires numbers-requires first-levels-requires new-requires returns)

@@ -1,0 +1,27 @@
+use Rattle.head.specs.Questions.{sizes-whole}
+use borrow.Author.Tests.{eq-eqb, ne-eqb, lt-ltb, le-ltb, eqb-true, le-leb, lt-leb}
+use mathlib.Core.Path.{_≡_, refl, sym, ap, _∙_}
+use borrow.Author.Needs.{needs}
+use Rattle.head.proofs.sizes_whole.Statement.{statement}
+use Rattle.head.proofs.sizes_whole.Tie as tie
+use Rattle.head.proofs.sizes_whole.Reads as reads
+use Rattle.head.proofs.sizes_whole.Lts as lts
+use Rattle.head.proofs.rooms_whole.Reads as rooms-whole-reads
+
+rooms-whole-requires : tie.Need-rooms-whole-requires
+rooms-whole-requires c κs = search needs
+
+returns : tie.Need-returns
+unfolding sizes-whole
+returns c = simp (eq-eqb _ _ (c .before .before .if1 .taken), eq-eqb _ _ (c .before .if2 .taken)) (c .rooms-whole .ensures)
+
+returns-2 : tie.Need-returns-2
+unfolding sizes-whole
+returns-2 c = simp (eq-eqb _ _ (c .before .if1 .taken), ne-eqb _ _ (c .if2 .left))
+
+returns-3 : tie.Need-returns-3
+unfolding sizes-whole
+returns-3 c = simp (ne-eqb _ _ (c .if1 .left))
+
+pub sizes-whole-spec : {M : Type 1} → statement M
+sizes-whole-spec = tie.close (tie.spec rooms-whole-requires returns returns-2 returns-3)

@@ -1,0 +1,33 @@
+use Rattle.head.specs.Start.{start, start-ends}
+use Rattle.head.specs.Answers.{start-number}
+use borrow.Author.Tests.{eq-eqb, ne-eqb, lt-ltb, le-ltb, eqb-true, le-leb, lt-leb}
+use mathlib.Core.Path.{_≡_, refl, sym, ap, _∙_}
+use borrow.Author.Needs.{needs}
+use Rattle.head.proofs.start.Statement.{statement}
+use Rattle.head.proofs.start.Tie as tie
+use Rattle.head.proofs.start.Reads as reads
+use Rattle.head.proofs.start.Lts as lts
+use Rattle.head.proofs.opening.Reads as opening-reads
+use Rattle.head.proofs.start_asked.Reads as start-asked-reads
+use Rattle.wants.proofs.clear.Reads as clear-reads
+
+start-asked-requires : tie.Need-start-asked-requires
+start-asked-requires c κs = search needs
+
+returns : tie.Need-returns
+unfolding start start-number
+returns c = (simp (sym (c .before .start-asked .ensures), ne-eqb _ _ (c .if1 .taken)), c .before .start-asked .ensures)
+
+clear-requires : tie.Need-clear-requires
+clear-requires c κs = search needs
+
+opening-requires : tie.Need-opening-requires
+opening-requires c κs = search needs
+
+returns-2 : tie.Need-returns-2
+unfolding start start-number
+returns-2 c = (simp (sym (c .before .before .before .before .before .start-asked .ensures), eq-eqb _ _ (c .before .before .before .before .if1 .left), c .opening .ensures) (ap (start-ends _ _) (c .before .clear .ensures)), sym (c .before .before .before .before .if1 .left) ∙ c .before .before .before .before .before .start-asked .ensures)
+
+pub start-spec : {M : Type 1} → statement M
+start-spec =
+    tie.close (tie.spec start-asked-requires returns clear-requires opening-requires returns-2)

@@ -1,0 +1,5 @@
+pub mod Numbers
+pub mod Questions
+pub mod Answers
+pub mod Start
+pub mod Readings

@@ -1,0 +1,47 @@
+-- The scan from its parts. Assumes nothing.
+use mathlib.Core.Path.{_≡_, refl, sym, ap, _∙_}
+use mathlib.Core.Bool.{Bool, true, false}
+use Prim.Native.Nat.{ℕ, _+_, _-_, _≤_, _<_}
+use native.Mathlib.Omega.{arith}
+use lib.Dec.{leb}
+use Rattle.store.specs.Store.{Rows, Kept, kept, retained}
+use Rattle.wants.specs.Wants.{Hist}
+use Rattle.head.specs.declared.Shedder.{Shedder}
+use Rattle.scan.specs.Scanning.{Scanning, scanning, visited, visit, visit-with, again, ended, ended-at, Started, started, begun, scanned, scanned-from}
+use Rattle.head.specs.Numbers.{choose}
+use Rattle.scan.specs.Walking.{walk, walk-overflow}
+
+pub moved-on : (r n : ℕ) → 1 ≤ r → r + n ≤ 64 → r - 1 + (n + 1) ≤ 64
+moved-on r n p q = omega arith
+
+module _ (h : Shedder) (m : Rows) (g : Hist) where
+  pub visit-is : (n : ℕ) (m1 : Rows) (g1 g2 : Hist) (r : Shedder)
+      → kept n m1 ≡ retained m (h .scan .next) (h .scan .«at_ms») (h .tracked)
+      → g1 ≡ walk-overflow (h .overflow) (h .scan .next) (h .scan .«at_ms») g
+      → g2 ≡ walk m1 (h .scan .next) (h .scan .«at_ms») n g1
+      → r ≡ visited h n
+      → scanning r m1 g2 ≡ visit (scanning h m g)
+  unfolding visit
+  visit-is n m1 g1 g2 r eK e1 e2 eR =
+      ap (λ (r : Shedder). scanning r m1 g2) eR
+      ∙ ap (λ (g : Hist). scanning (visited h n) m1 g) (e2 ∙ ap (walk m1 (h .scan .next) (h .scan .«at_ms») n) e1)
+      ∙ ap (visit-with (scanning h m g)) eK
+
+  pub scanned-on : (clock : ℕ) (b : Shedder) (g1 : Hist) (v : Shedder) (m1 : Rows) (g2 : Hist) (w : Shedder) (m2 : Rows) (g3 : Hist) (r : Shedder)
+      → started b g1 ≡ begun h g clock → leb 1 (b .scan .remaining) ≡ true
+      → scanning v m1 g2 ≡ visit (scanning b m g1)
+      → scanning w m2 g3 ≡ again (scanning v m1 g2)
+      → r ≡ ended w g3
+      → scanning r m2 g3 ≡ scanned (scanning h m g) clock
+  unfolding scanned
+  scanned-on clock b g1 v m1 g2 w m2 g3 r eB t eV eW eR =
+      ap (λ (r : Shedder). scanning r m2 g3) eR ∙ ap ended-at (eW ∙ ap again eV)
+      ∙ ap (λ (x : Bool). choose x (ended-at (again (visit (scanning b m g1)))) (scanning b m g1)) (sym t)
+      ∙ ap (scanned-from m) eB
+
+  pub scanned-off : (clock : ℕ) (b : Shedder) (g1 : Hist)
+      → started b g1 ≡ begun h g clock → leb 1 (b .scan .remaining) ≡ false
+      → scanning b m g1 ≡ scanned (scanning h m g) clock
+  unfolding scanned
+  scanned-off clock b g1 eB t =
+      ap (λ (x : Bool). choose x (ended-at (again (visit (scanning b m g1)))) (scanning b m g1)) (sym t) ∙ ap (scanned-from m) eB

@@ -1,0 +1,13 @@
+use Rattle.scan.specs.Scanning.{opened}
+use mathlib.Core.Path.{_≡_, refl, sym, ap, _∙_}
+use Rattle.scan.proofs.opened.Statement.{statement}
+use Rattle.scan.proofs.opened.Tie as tie
+use Rattle.scan.proofs.opened.Reads as reads
+use Rattle.scan.proofs.opened.Lts as lts
+
+returns : tie.Need-returns
+unfolding opened
+returns c = refl
+
+pub opened-spec : {M : Type 1} → statement M
+opened-spec = tie.close (tie.spec returns)

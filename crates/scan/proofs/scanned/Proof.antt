@@ -1,0 +1,54 @@
+use Rattle.scan.proofs.Scanning.{scanned-on, scanned-off}
+use Rattle.head.proofs.Bounds.{held-on}
+use borrow.Author.Tests.{eq-eqb, ne-eqb, lt-ltb, le-ltb, eqb-true, le-leb, lt-leb}
+use mathlib.Core.Path.{_≡_, refl, sym, ap, _∙_}
+use borrow.Author.Needs.{needs}
+use Rattle.scan.proofs.scanned.Statement.{statement}
+use Rattle.scan.proofs.scanned.Tie as tie
+use Rattle.scan.proofs.scanned.Reads as reads
+use Rattle.scan.proofs.scanned.Lts as lts
+use Rattle.scan.proofs.again.Reads as again-reads
+use Rattle.scan.proofs.begun.Reads as begun-reads
+use Rattle.scan.proofs.ended.Reads as ended-reads
+use Rattle.scan.proofs.visit.Reads as visit-reads
+
+begun-requires : tie.Need-begun-requires
+begun-requires c κs = search needs
+
+visit-requires : tie.Need-visit-requires
+visit-requires c κs = search needs
+
+again-requires : tie.Need-again-requires
+again-requires c κs = (held-on (c .before .before .before .before .before .before .before .before .before .visit .ensures .1 .0) (c .before .before .before .before .before .before .before .before .before .before .before .before .before .before .before .before .before .before .begun .ensures .1 .0) (c .before .before .before .before .before .before .before .before .before .before .before .before .before .before .before .before .before .before .before .before .before .before .pre .0) (c .before .before .before .before .before .before .before .before .before .visit .kept .1 .0), (held-on (c .before .before .before .before .before .before .before .before .before .visit .ensures .1 .0) (c .before .before .before .before .before .before .before .before .before .before .before .before .before .before .before .before .before .before .begun .ensures .1 .0) (c .before .before .before .before .before .before .before .before .before .before .before .before .before .before .before .before .before .before .before .before .before .before .pre .1 .0) (c .before .before .before .before .before .before .before .before .before .visit .kept .1 .1 .0), (held-on (c .before .before .before .before .before .before .before .before .before .visit .ensures .1 .0) (c .before .before .before .before .before .before .before .before .before .before .before .before .before .before .before .before .before .before .begun .ensures .1 .0) (c .before .before .before .before .before .before .before .before .before .before .before .before .before .before .before .before .before .before .before .before .before .before .pre .1 .1 .0) (c .before .before .before .before .before .before .before .before .before .visit .kept .1 .1 .1 .0), c .before .before .before .before .before .before .before .before .before .visit .ensures .1 .1)))
+
+ended-requires : tie.Need-ended-requires
+ended-requires c κs = search needs
+
+same-length : tie.Need-same-length
+same-length c = c .before .before .before .before .before .before .before .again .kept .1 .0 ∙ c .before .before .before .before .before .before .before .before .before .before .before .before .before .before .before .before .before .visit .kept .1 .0
+
+same-length-2 : tie.Need-same-length-2
+same-length-2 c = c .before .before .before .before .before .before .before .again .kept .1 .1 .0 ∙ c .before .before .before .before .before .before .before .before .before .before .before .before .before .before .before .before .before .visit .kept .1 .1 .0
+
+same-length-3 : tie.Need-same-length-3
+same-length-3 c = c .before .before .before .before .before .before .before .again .kept .1 .1 .1 .0 ∙ c .before .before .before .before .before .before .before .before .before .before .before .before .before .before .before .before .before .visit .kept .1 .1 .1 .0
+
+returns : tie.Need-returns
+returns c = scanned-on (c .before .before .before .before .before .before .before .before .before .before .before .before .before .before .before .before .before .before .before .before .before .before .before .before .before .before .before .before .before .before .args .h) _ _ (c .before .before .before .before .before .before .before .before .before .before .before .before .before .before .before .before .before .before .before .before .before .before .before .before .before .before .before .before .before .before .args .clock) (c .before .before .before .before .before .before .before .before .before .before .before .before .before .before .before .before .before .before .before .before .before .before .before .before .before .before .begun .result) _ (c .before .before .before .before .before .before .before .before .before .before .before .before .before .before .before .before .before .visit .result) _ _ (c .before .before .before .before .before .before .before .again .result) _ _ (c .ended .result) (c .before .before .before .before .before .before .before .before .before .before .before .before .before .before .before .before .before .before .before .before .before .before .before .before .before .before .begun .ensures .0) (le-leb _ _ (c .before .before .before .before .before .before .before .before .before .before .before .before .before .before .before .before .before .before .before .before .before .before .before .if1 .taken)) (c .before .before .before .before .before .before .before .before .before .before .before .before .before .before .before .before .before .visit .ensures .0) (c .before .before .before .before .before .before .before .again .ensures) (c .ended .ensures)
+
+returns-2 : tie.Need-returns-2
+returns-2 c = scanned-off (c .before .before .before .before .before .before .before .args .h) _ _ (c .before .before .before .before .before .before .before .args .clock) (c .before .before .before .begun .result) _ (c .before .before .before .begun .ensures .0) (lt-leb _ _ (c .if1 .left))
+
+pub scanned-spec : {M : Type 1} → statement M
+scanned-spec =
+    tie.close
+    (tie.spec
+    begun-requires
+    visit-requires
+    again-requires
+    ended-requires
+    same-length
+    same-length-2
+    same-length-3
+    returns
+    returns-2)

@@ -1,0 +1,54 @@
+use Rattle.scan.proofs.Scanning.{visit-is, moved-on}
+use Rattle.head.proofs.Bounds.{le-by}
+use Rattle.scan.specs.Scanning.{visited}
+use Rattle.head.specs.declared.Shedder.{Shedder}
+use Prim.Native.Nat.{ℕ, _≤_, _<_, _-_, _+_}
+use native.Mathlib.Omega.{arith}
+use mathlib.Core.Path.{_≡_, refl, sym, ap, _∙_}
+use borrow.Author.Needs.{needs}
+use Rattle.scan.proofs.visit.Statement.{statement}
+use Rattle.scan.proofs.visit.Tie as tie
+use Rattle.scan.proofs.visit.Reads as reads
+use Rattle.scan.proofs.visit.Lts as lts
+use Rattle.scan.proofs.visited.Reads as visited-reads
+use Rattle.scan.proofs.walk.Reads as walk-reads
+use Rattle.scan.proofs.walk_overflow.Reads as walk-overflow-reads
+use Rattle.store.proofs.retain.Reads as retain-reads
+
+walk-overflow-requires : tie.Need-walk-overflow-requires
+walk-overflow-requires c κs = search needs
+
+retain-requires : tie.Need-retain-requires
+retain-requires c κs = search needs
+
+walk-requires : tie.Need-walk-requires
+walk-requires c κs = search needs
+
+visited-requires : tie.Need-visited-requires
+visited-requires c κs = search needs
+
+same-length : tie.Need-same-length
+same-length c = search needs
+
+same-length-2 : tie.Need-same-length-2
+same-length-2 c = search needs
+
+same-length-3 : tie.Need-same-length-3
+same-length-3 c = search needs
+
+returns : tie.Need-returns
+unfolding visited
+returns c = (visit-is (c .before .before .before .before .before .before .before .before .before .before .before .before .before .before .before .before .before .before .before .before .before .args .h) _ _ (c .before .before .before .before .before .before .before .before .before .before .before .retain .result) _ _ _ (c .visited .result) (c .before .before .before .before .before .before .before .before .before .before .before .retain .ensures .0) (c .before .before .before .before .before .before .before .before .before .before .before .before .before .before .before .walk-overflow .ensures) (c .before .walk .ensures) (c .visited .ensures), (le-by (ap (λ (h : Shedder). h .tracked) (c .visited .ensures)) (c .before .before .before .before .before .before .before .before .before .before .before .retain .ensures .1), le-by (ap (λ (h : Shedder). h .scan .remaining + h .scan .next) (c .visited .ensures)) (moved-on (c .before .before .before .before .before .before .before .before .before .before .before .before .before .before .before .before .before .before .before .before .before .args .h .scan .remaining) (c .before .before .before .before .before .before .before .before .before .before .before .before .before .before .before .before .before .before .before .before .before .args .h .scan .next) (c .before .before .before .before .before .before .before .before .before .before .before .before .before .before .before .before .before .before .before .before .before .pre .1 .1 .1 .0) (c .before .before .before .before .before .before .before .before .before .before .before .before .before .before .before .before .before .before .before .before .before .pre .1 .1 .1 .1))))
+
+pub visit-spec : {M : Type 1} → statement M
+visit-spec =
+    tie.close
+    (tie.spec
+    walk-overflow-requires
+    retain-requires
+    walk-requires
+    visited-requires
+    same-length
+    same-length-2
+    same-length-3
+    returns)

@@ -1,0 +1,43 @@
+use Rattle.scan.proofs.Turns.{walk-none, walk-next}
+use Rattle.store.specs.Store.{rows}
+use Rattle.wants.specs.Wants.{Hist, hist}
+use lib.ListN.{length}
+use Rattle.scan.specs.Walking.{walk, walk-one}
+use native.Mathlib.Omega.{arith}
+use Prim.Native.Nat.{ℕ, _≤_, _<_, _-_, _+_}
+use mathlib.Core.Path.{_≡_, refl, sym, ap, _∙_}
+use borrow.Author.Needs.{needs}
+use Rattle.scan.proofs.walk.Statement.{statement}
+use Rattle.scan.proofs.walk.Tie as tie
+use Rattle.scan.proofs.walk.Reads as reads
+use Rattle.scan.proofs.walk.Lts as lts
+use Rattle.scan.proofs.walk_one.Reads as walk-one-reads
+
+abbrev Inv-loop : tie.InvT-loop
+Inv-loop ids units uses counts₀ sums₀ n table at-ms i₀ counts sums i = (i ≤ n) × (n ≤ length ids) × (n ≤ length units) × (n ≤ length uses) × (hist counts sums ≡ walk (rows ids units uses) table at-ms i (hist counts₀ sums₀))
+
+abbrev μ-loop : tie.MeasureT-loop
+μ-loop ids units uses counts₀ sums₀ n table at-ms i₀ counts sums i = n - i
+
+loop-holds : tie.Need-loop-holds Inv-loop μ-loop
+loop-holds c = (search needs, search needs, search needs, search needs, sym (walk-none _ _ _ _))
+
+walk-one-requires : tie.Need-walk-one-requires Inv-loop μ-loop
+walk-one-requires c κs = search needs
+
+add-i : tie.Need-add-i Inv-loop μ-loop
+add-i c = search needs
+
+loop-less : tie.Need-loop-less Inv-loop μ-loop
+loop-less c = search needs
+
+loop-again : tie.Need-loop-again Inv-loop μ-loop
+loop-again c = (search needs, search needs, search needs, search needs, c .walk-one .ensures ∙ ap (walk-one _ (c .before .before .before .before .before .before .args .table) (c .before .before .before .before .before .before .args .at-ms) (c .before .before .before .before .loop .i)) (c .before .before .before .before .loop .inv .4) ∙ sym (walk-next _ _ _ _ _))
+
+returns : tie.Need-returns Inv-loop μ-loop
+returns c = let e : c .before .loop .i ≡ c .before .before .before .args .n = omega arith in (rw e at (c .before .loop .inv .4))
+
+pub walk-spec : {M : Type 1} → statement M
+walk-spec =
+    tie.close
+    (tie.spec Inv-loop μ-loop loop-holds walk-one-requires add-i loop-less loop-again returns)

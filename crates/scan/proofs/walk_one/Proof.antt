@@ -1,0 +1,32 @@
+use Rattle.scan.specs.Walking.{walk-one}
+use borrow.Author.Tests.{eq-eqb, ne-eqb, lt-ltb, le-ltb, eqb-true, le-leb, lt-leb}
+use mathlib.Core.Path.{_≡_, refl, sym, ap, _∙_}
+use borrow.Author.Needs.{needs}
+use Rattle.scan.proofs.walk_one.Statement.{statement}
+use Rattle.scan.proofs.walk_one.Tie as tie
+use Rattle.scan.proofs.walk_one.Reads as reads
+use Rattle.scan.proofs.walk_one.Lts as lts
+use Rattle.scan.proofs.walk_use.Reads as walk-use-reads
+use Rattle.store.proofs.table_at.Reads as table-at-reads
+use Rattle.store.proofs.use_at.Reads as use-at-reads
+
+table-at-requires : tie.Need-table-at-requires
+table-at-requires c κs = search needs
+
+use-at-requires : tie.Need-use-at-requires
+use-at-requires c κs = search needs
+
+walk-use-requires : tie.Need-walk-use-requires
+walk-use-requires c κs = search needs
+
+returns : tie.Need-returns
+unfolding walk-one
+returns c = simp (sym (c .before .before .before .before .before .table-at .ensures), eq-eqb _ _ (c .before .before .before .before .if1 .taken), sym (c .before .use-at .ensures)) (c .walk-use .ensures)
+
+returns-2 : tie.Need-returns-2
+unfolding walk-one
+returns-2 c = simp (sym (c .before .table-at .ensures), ne-eqb _ _ (c .if1 .left))
+
+pub walk-one-spec : {M : Type 1} → statement M
+walk-one-spec =
+    tie.close (tie.spec table-at-requires use-at-requires walk-use-requires returns returns-2)

@@ -1,0 +1,81 @@
+-- The level that a scan found, trimmed: the trim follows the rate admitted since the last reading, and stays in 0.5 to 1. Definitions only.
+use Prim.Native.Nat.{ℕ, _-_}
+use mathlib.Core.Bool.{Bool, false, cond}
+use mathlib.Core.List.{List}
+use lib.Ieee as Ieee
+use lib.Ieee.{Float, binary64, ofBits}
+use Rattle.ieee.specs.Extremes.{most, clamped}
+use Rattle.flow.specs.Flow as flow
+use Rattle.flow.specs.Flow.{nothing, one, at, upto, zeros, numbers}
+use Rattle.wants.specs.Wants as wants
+use Rattle.wants.specs.Wants.{Hist}
+use Rattle.head.specs.declared.Scan.{Scan}
+use Rattle.head.specs.declared.Shedder.{Shedder}
+use Rattle.head.specs.Numbers.{dims}
+
+-- the head with another scan, number of records, number of visits, and level
+abbrev pub scan-then : Shedder → Scan → ℕ → ℕ → List Float → Shedder
+scan-then h s tracked visits level = record {
+  flow = h .flow;
+  overflow = h .overflow;
+  scan = s;
+  visits = visits;
+  level = level;
+  batches = h .batches;
+  receptions = h .receptions;
+  tracked = tracked;
+  counted = h .counted;
+  «unit_room» = h .«unit_room»;
+  «counted_room» = h .«counted_room»;
+}
+
+-- below +infinity (1 / 0) and above −infinity
+unfoldable pub is-finite : Float → Bool
+is-finite x = cond (Ieee.lt x (Ieee.div binary64 one nothing)) (Ieee.lt (Ieee.div binary64 (Ieee.neg one) nothing) x) false
+
+abbrev pub twentieth : Float
+twentieth = ofBits binary64 0x3fa9_9999_9999_999a
+
+-- 1 + span × (rate / gained − 1), in 0.95 to 1.05; the trim closes the gap in 1 second
+unfoldable pub step-of : Float → Float → Float → Float
+step-of rate gained span =
+    clamped (Ieee.add binary64 one (Ieee.mul binary64 (Ieee.div binary64 span one) (Ieee.sub binary64 (Ieee.div binary64 rate gained) one))) (Ieee.sub binary64 one twentieth) (Ieee.add binary64 one twentieth)
+
+-- 1 where the level found is not finite; else a step from the trim before, but the trim before where no time passed or nothing was gained
+unfoldable pub trim-of : Float → Float → Float → Float → Float → Float
+trim-of found trim rate gain span =
+    cond (is-finite found)
+    (cond (Ieee.lt nothing span) (cond (Ieee.lt nothing (Ieee.div binary64 gain span)) (clamped (Ieee.mul binary64 trim (step-of rate (Ieee.div binary64 gain span) span)) flow.half one) trim) trim)
+    one
+
+-- the level found, for each dimension
+unfoldable pub opens : Hist → List Float → List Float
+opens g rate = upto (λ (d : ℕ). wants.level g d (at rate d)) dims zeros
+
+unfoldable pub trims : List Float → List Float → List Float → List Float → List Float → Float → List Float
+trims found trim rate admitted read span = upto (λ (d : ℕ). trim-of (at found d) (at trim d) (at rate d) (Ieee.sub binary64 (at admitted d) (at read d)) span) dims zeros
+
+-- the level stored: max(1, open × trim)
+unfoldable pub levels : List Float → List Float → List Float
+levels found trim = upto (λ (d : ℕ). most (Ieee.mul binary64 (at found d) (at trim d)) one) dims zeros
+
+-- the seconds since the last reading
+unfoldable pub span-of : ℕ → ℕ → Float
+span-of now t = flow.seconds (now - t)
+
+abbrev pub trims-at : Shedder → Hist → List Float
+trims-at h g =
+    trims (opens g (numbers (h .flow .rate))) (h .scan .trim) (numbers (h .flow .rate)) (h .flow .admitted) (h .scan .«read_admitted») (span-of (h .flow .«at_ms») (h .scan .«read_ms»))
+
+-- open, trim and level anew; what was admitted, and when, is noted as read
+unfoldable pub trimmed : Shedder → Hist → Shedder
+trimmed h g = scan-then h (record {
+  remaining = h .scan .remaining;
+  next = h .scan .next;
+  «at_ms» = h .scan .«at_ms»;
+  «began_ms» = h .scan .«began_ms»;
+  trim = trims-at h g;
+  «open» = opens g (numbers (h .flow .rate));
+  «read_ms» = h .flow .«at_ms»;
+  «read_admitted» = h .flow .admitted;
+}) (h .tracked) (h .visits) (levels (opens g (numbers (h .flow .rate))) (trims-at h g))

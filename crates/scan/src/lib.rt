@@ -1,0 +1,346 @@
+// The scan that finds the level again, two tables with each judgement, and the trim.
+ghost use mathlib.Core.Path.{_≡_};
+ghost use Prim.Native.Nat.{_<_, _≤_, _+_};
+ghost use lib.ListN.{length};
+ghost use Rattle.flow.specs.Flow as float;
+ghost use Rattle.store.specs.Store as store;
+ghost use Rattle.wants.specs.Wants as wants;
+ghost use Rattle.head.specs.Numbers as numbers;
+ghost use Rattle.scan.specs.Walking as walking;
+ghost use Rattle.scan.specs.Scanning as scanning;
+ghost use Rattle.scan.specs.Trimming as trimming;
+use flow::DIMS;
+use flow::Use;
+use head::Shedder;
+
+fn add_all(counts: &mut [[u32; 768]; DIMS], sums: &mut [[f64; 768]; DIMS], want: [f64; DIMS])
+    ensures { λ r. ⌜ (wants.hist (now (counts .exit)) (now (sums .exit))) ≡ walking.adds want numbers.dims (wants.hist (now (counts .entry)) (now (sums .entry))) ⌝ }
+{
+    let mut d = 0;
+    while d < DIMS {
+        wants::add(counts, sums, d, want[d]);
+        d += 1;
+    }
+}
+
+fn walk_use(counts: &mut [[u32; 768]; DIMS], sums: &mut [[f64; 768]; DIMS], used: Use, at_ms: u64)
+    ensures { λ r. ⌜ (wants.hist (now (counts .exit)) (now (sums .exit))) ≡ walking.walk-use used «at_ms» (wants.hist (now (counts .entry)) (now (sums .entry))) ⌝ }
+{
+    add_all(counts, sums, used.rates(at_ms));
+}
+
+// Overflow's record is walked at table 0, once it has been judged.
+fn walk_overflow(
+    counts: &mut [[u32; 768]; DIMS],
+    sums: &mut [[f64; 768]; DIMS],
+    overflow: Use,
+    table: usize,
+    at_ms: u64,
+)
+    ensures { λ r. ⌜ (wants.hist (now (counts .exit)) (now (sums .exit))) ≡ walking.walk-overflow overflow table «at_ms» (wants.hist (now (counts .entry)) (now (sums .entry))) ⌝ }
+{
+    if table == 0 {
+        if overflow.fresh {
+            return;
+        }
+        walk_use(counts, sums, overflow, at_ms);
+    }
+}
+
+fn walk_one(
+    hashes: &[u64],
+    units: &[[u64; 7]],
+    uses: &[[f64; 2 * DIMS]],
+    counts: &mut [[u32; 768]; DIMS],
+    sums: &mut [[f64; 768]; DIMS],
+    i: usize,
+    table: usize,
+    at_ms: u64,
+)
+    requires { ⌜ i < length (now hashes) ⌝ }
+    requires { ⌜ i < length (now units) ⌝ }
+    requires { ⌜ i < length (now uses) ⌝ }
+    ensures { λ r. ⌜ (wants.hist (now (counts .exit)) (now (sums .exit))) ≡ walking.walk-one (store.rows (now (hashes .entry)) (now (units .entry)) (now (uses .entry))) table «at_ms» i (wants.hist (now (counts .entry)) (now (sums .entry))) ⌝ }
+{
+    if store::table_at(hashes, i) == table {
+        walk_use(counts, sums, store::use_at(units, uses, i), at_ms);
+    }
+}
+
+fn walk(
+    hashes: &[u64],
+    units: &[[u64; 7]],
+    uses: &[[f64; 2 * DIMS]],
+    counts: &mut [[u32; 768]; DIMS],
+    sums: &mut [[f64; 768]; DIMS],
+    n: usize,
+    table: usize,
+    at_ms: u64,
+)
+    requires { ⌜ n ≤ length (now hashes) ⌝ }
+    requires { ⌜ n ≤ length (now units) ⌝ }
+    requires { ⌜ n ≤ length (now uses) ⌝ }
+    ensures { λ r. ⌜ (wants.hist (now (counts .exit)) (now (sums .exit))) ≡ walking.walk (store.rows (now (hashes .entry)) (now (units .entry)) (now (uses .entry))) table «at_ms» n (wants.hist (now (counts .entry)) (now (sums .entry))) ⌝ }
+{
+    let mut i = 0;
+    while i < n {
+        walk_one(hashes, units, uses, counts, sums, i, table, at_ms);
+        i += 1;
+    }
+}
+
+// One table more is visited, and so many records are left.
+fn visited(h: Shedder, n: usize) -> Shedder
+    requires { ⌜ 1 ≤ h .scan .remaining ⌝ }
+    requires { ⌜ h .scan .remaining + h .scan .next ≤ 64 ⌝ }
+    ensures { λ r. ⌜ r ≡ scanning.visited h n ⌝ }
+{
+    let mut s = h.scan;
+    s.next = s.next + 1;
+    s.remaining = s.remaining - 1;
+    let mut r = h;
+    r.scan = s;
+    r.tracked = n;
+    r.visits = std::num::wrapping_add_u64(h.visits, 1);
+    r
+}
+
+fn visit(
+    h: Shedder,
+    hashes: &mut [u64],
+    units: &mut [[u64; 7]],
+    uses: &mut [[f64; 2 * DIMS]],
+    counts: &mut [[u32; 768]; DIMS],
+    sums: &mut [[f64; 768]; DIMS],
+) -> Shedder
+    requires { ⌜ h .tracked ≤ length (now hashes) ⌝ }
+    requires { ⌜ h .tracked ≤ length (now units) ⌝ }
+    requires { ⌜ h .tracked ≤ length (now uses) ⌝ }
+    requires { ⌜ 1 ≤ h .scan .remaining ⌝ }
+    requires { ⌜ h .scan .remaining + h .scan .next ≤ 64 ⌝ }
+    ensures { λ r. ⌜ scanning.scanning r (store.rows (now (hashes .exit)) (now (units .exit)) (now (uses .exit))) (wants.hist (now (counts .exit)) (now (sums .exit))) ≡ scanning.visit (scanning.scanning h (store.rows (now (hashes .entry)) (now (units .entry)) (now (uses .entry))) (wants.hist (now (counts .entry)) (now (sums .entry)))) ⌝ }
+    ensures { λ r. ⌜ r .tracked ≤ h .tracked ⌝ }
+    ensures { λ r. ⌜ r .scan .remaining + r .scan .next ≤ 64 ⌝ }
+{
+    let s = h.scan;
+    let overflow = h.overflow;
+    let table = s.next;
+    let at_ms = s.at_ms;
+    walk_overflow(counts, sums, overflow, table, at_ms);
+    let n = store::retain(hashes, units, uses, h.tracked, table, at_ms);
+    walk(hashes, units, uses, counts, sums, n, table, at_ms);
+    visited(h, n)
+}
+
+fn again(
+    h: Shedder,
+    hashes: &mut [u64],
+    units: &mut [[u64; 7]],
+    uses: &mut [[f64; 2 * DIMS]],
+    counts: &mut [[u32; 768]; DIMS],
+    sums: &mut [[f64; 768]; DIMS],
+) -> Shedder
+    requires { ⌜ h .tracked ≤ length (now hashes) ⌝ }
+    requires { ⌜ h .tracked ≤ length (now units) ⌝ }
+    requires { ⌜ h .tracked ≤ length (now uses) ⌝ }
+    requires { ⌜ h .scan .remaining + h .scan .next ≤ 64 ⌝ }
+    ensures { λ r. ⌜ scanning.scanning r (store.rows (now (hashes .exit)) (now (units .exit)) (now (uses .exit))) (wants.hist (now (counts .exit)) (now (sums .exit))) ≡ scanning.again (scanning.scanning h (store.rows (now (hashes .entry)) (now (units .entry)) (now (uses .entry))) (wants.hist (now (counts .entry)) (now (sums .entry)))) ⌝ }
+{
+    let s = h.scan;
+    if 1 <= s.remaining {
+        visit(h, hashes, units, uses, counts, sums)
+    } else {
+        h
+    }
+}
+
+fn is_finite(x: f64) -> bool
+    ensures { λ r. ⌜ r ≡ trimming.is-finite x ⌝ }
+{
+    if x < 1.0 / 0.0 { -1.0 / 0.0 < x } else { false }
+}
+
+fn step_of(rate: f64, gained: f64, span: f64) -> f64
+    ensures { λ r. ⌜ r ≡ trimming.step-of rate gained span ⌝ }
+{
+    ieee::clamp(
+        1.0 + span / 1.0 * (rate / gained - 1.0),
+        1.0 - 0.05,
+        1.0 + 0.05,
+    )
+}
+
+fn trim_of(open: f64, trim: f64, rate: f64, gain: f64, span: f64) -> f64
+    ensures { λ r. ⌜ r ≡ trimming.trim-of «open» trim rate gain span ⌝ }
+{
+    if is_finite(open) {
+        if 0.0 < span {
+            let gained = gain / span;
+            if 0.0 < gained {
+                return ieee::clamp(trim * step_of(rate, gained, span), 0.5, 1.0);
+            }
+            return trim;
+        }
+        return trim;
+    }
+    1.0
+}
+
+fn opens(counts: &[[u32; 768]; DIMS], sums: &[[f64; 768]; DIMS], rate: [f64; DIMS]) -> [f64; DIMS]
+    ensures { λ r. ⌜ r ≡ trimming.opens (wants.hist (now (counts .entry)) (now (sums .entry))) rate ⌝ }
+{
+    let mut out = [0.0; DIMS];
+    let mut d = 0;
+    while d < DIMS {
+        out[d] = wants::level(counts, sums, d, rate[d]);
+        d += 1;
+    }
+    out
+}
+
+fn trims(
+    open: [f64; DIMS],
+    trim: [f64; DIMS],
+    rate: [f64; DIMS],
+    admitted: [f64; DIMS],
+    read: [f64; DIMS],
+    span: f64,
+) -> [f64; DIMS]
+    ensures { λ r. ⌜ r ≡ trimming.trims «open» trim rate admitted read span ⌝ }
+{
+    let mut out = [0.0; DIMS];
+    let mut d = 0;
+    while d < DIMS {
+        out[d] = trim_of(open[d], trim[d], rate[d], admitted[d] - read[d], span);
+        d += 1;
+    }
+    out
+}
+
+fn levels(open: [f64; DIMS], trim: [f64; DIMS]) -> [f64; DIMS]
+    ensures { λ r. ⌜ r ≡ trimming.levels «open» trim ⌝ }
+{
+    let mut out = [0.0; DIMS];
+    let mut d = 0;
+    while d < DIMS {
+        out[d] = ieee::max(open[d] * trim[d], 1.0);
+        d += 1;
+    }
+    out
+}
+
+// The cast that is defined on every number, so that no bound is asked.
+fn number(n: u64) -> f64
+    ensures { λ r. ⌜ r ≡ float.whole n ⌝ }
+{
+    std::num::nearest_u64_to_f64(n)
+}
+
+fn span_of(now: u64, at: u64) -> f64
+    ensures { λ r. ⌜ r ≡ trimming.span-of now at ⌝ }
+{
+    number(head::since(now, at)) / 1000.0
+}
+
+fn trimmed(h: Shedder, counts: &[[u32; 768]; DIMS], sums: &[[f64; 768]; DIMS]) -> Shedder
+    ensures { λ r. ⌜ r ≡ trimming.trimmed h (wants.hist (now (counts .entry)) (now (sums .entry))) ⌝ }
+{
+    let f = h.flow;
+    let mut s = h.scan;
+    let rate = f.rate;
+    let admitted = f.admitted;
+    let read = s.read_admitted;
+    let was = s.trim;
+    let per_s = flow::numbers(rate);
+    let open = opens(counts, sums, per_s);
+    let trim = trims(
+        open,
+        was,
+        per_s,
+        admitted,
+        read,
+        span_of(f.at_ms, s.read_ms),
+    );
+    let level = levels(open, trim);
+    s.open = open;
+    s.trim = trim;
+    s.read_ms = f.at_ms;
+    s.read_admitted = admitted;
+    let mut r = h;
+    r.scan = s;
+    r.level = level;
+    r
+}
+
+fn ended(h: Shedder, counts: &[[u32; 768]; DIMS], sums: &[[f64; 768]; DIMS]) -> Shedder
+    ensures { λ r. ⌜ r ≡ scanning.ended h (wants.hist (now (counts .entry)) (now (sums .entry))) ⌝ }
+{
+    let s = h.scan;
+    if s.remaining == 0 {
+        trimmed(h, counts, sums)
+    } else {
+        h
+    }
+}
+
+fn opened(h: Shedder, clock: u64) -> Shedder
+    ensures { λ r. ⌜ r ≡ scanning.opened h clock ⌝ }
+{
+    let mut s = h.scan;
+    s.remaining = 64;
+    s.next = 0;
+    s.at_ms = clock;
+    s.began_ms = clock;
+    let mut r = h;
+    r.scan = s;
+    r
+}
+
+fn begun(
+    h: Shedder,
+    counts: &mut [[u32; 768]; DIMS],
+    sums: &mut [[f64; 768]; DIMS],
+    clock: u64,
+) -> Shedder
+    requires { ⌜ h .scan .«began_ms» < 9007199254740992 ⌝ }
+    requires { ⌜ h .scan .remaining + h .scan .next ≤ 64 ⌝ }
+    ensures { λ r. ⌜ scanning.started r (wants.hist (now (counts .exit)) (now (sums .exit))) ≡ scanning.begun h (wants.hist (now (counts .entry)) (now (sums .entry))) clock ⌝ }
+    ensures { λ r. ⌜ r .tracked ≡ h .tracked ⌝ }
+    ensures { λ r. ⌜ r .scan .remaining + r .scan .next ≤ 64 ⌝ }
+{
+    let s = h.scan;
+    if 1 <= s.remaining {
+        return h;
+    }
+    if clock < s.began_ms + 500 {
+        return h;
+    }
+    wants::clear(counts, sums);
+    opened(h, clock)
+}
+
+pub fn scanned(
+    h: Shedder,
+    hashes: &mut [u64],
+    units: &mut [[u64; 7]],
+    uses: &mut [[f64; 2 * DIMS]],
+    counts: &mut [[u32; 768]; DIMS],
+    sums: &mut [[f64; 768]; DIMS],
+    clock: u64,
+) -> Shedder
+    requires { ⌜ h .tracked ≤ length (now hashes) ⌝ }
+    requires { ⌜ h .tracked ≤ length (now units) ⌝ }
+    requires { ⌜ h .tracked ≤ length (now uses) ⌝ }
+    requires { ⌜ h .scan .«began_ms» < 9007199254740992 ⌝ }
+    requires { ⌜ h .scan .remaining + h .scan .next ≤ 64 ⌝ }
+    ensures { λ r. ⌜ scanning.scanning r (store.rows (now (hashes .exit)) (now (units .exit)) (now (uses .exit))) (wants.hist (now (counts .exit)) (now (sums .exit))) ≡ scanning.scanned (scanning.scanning h (store.rows (now (hashes .entry)) (now (units .entry)) (now (uses .entry))) (wants.hist (now (counts .entry)) (now (sums .entry)))) clock ⌝ }
+{
+    let b = begun(h, counts, sums, clock);
+    let s = b.scan;
+    if 1 <= s.remaining {
+        let v = visit(b, hashes, units, uses, counts, sums);
+        let w = again(v, hashes, units, uses, counts, sums);
+        return ended(w, counts, sums);
+    }
+    b
+}

@@ -1,0 +1,5 @@
+pub mod Bounding
+pub mod Passing
+pub mod Nine
+pub mod Whole
+pub mod Stays

@@ -1,0 +1,295 @@
+-- A whole head as facts, both ways; and a start and a scan leave the head whole. Assumes nothing.
+use mathlib.Core.Path.{_≡_, refl, sym, ap, _∙_}
+use mathlib.Core.Bool.{Bool, true, false, _&&_, cond, true≢false}
+use mathlib.Core.Logic.{_⊎_, inl, inr, ⊎-elim}
+use mathlib.Core.List.{List}
+use Prim.Native.Nat.{ℕ, zero, suc, _+_, _-_, _≤_, _<_}
+use native.Mathlib.Omega.{arith}
+use lib.Dec.{eqb, leb, ltb}
+use borrow.Author.Tests.{ltb-true, ltb-false, eqb-true, eq-eqb, lt-ltb, le-ltb, le-leb, leb-true}
+use Rattle.store.specs.Store.{Rows, Kept, kept, either, is-stale, freed, moved, retain-one, retained}
+use Rattle.wants.specs.Wants.{Hist}
+use Rattle.wants.specs.Wants as wants
+use Rattle.head.specs.declared.Shedder.{Shedder}
+use Rattle.head.specs.Numbers.{choose}
+use Rattle.head.specs.Questions.{rates-whole, is-stamp, tables-whole, rooms-whole, stamps-whole, head-whole, memory-whole, sizes-whole, start-asked, judge-asked, cut-asked}
+use Rattle.head.specs.Start.{Beginning, start-ends, opening, start}
+use Rattle.scan.specs.Trimming.{trimmed}
+use Rattle.scan.specs.Scanning.{Scanning, scanning, visited, visit, again, ended, opened, Started, started, begun, scanned}
+
+-- ---- what a test shows
+zero-yes : (b : Bool) (x n : ℕ) → cond b x (suc n) ≡ 0 → (b ≡ true) × (x ≡ 0)
+zero-yes true x n e = (refl, e)
+zero-yes false x n e = absurd (omega arith)
+
+yes-yes : (b x : Bool) → cond b x false ≡ true → (b ≡ true) × (x ≡ true)
+yes-yes true x e = (refl, e)
+yes-yes false x e = absurd (true≢false (sym e))
+
+no-yes : (b x : Bool) → cond b false x ≡ true → (b ≡ false) × (x ≡ true)
+no-yes true x e = absurd (true≢false (sym e))
+no-yes false x e = (refl, e)
+
+one-of : (b x : Bool) → cond b true x ≡ true → (b ≡ true) ⊎ (x ≡ true)
+one-of true x e = inl refl
+one-of false x e = inr e
+
+both-yes : (a b : Bool) → a && b ≡ true → (a ≡ true) × (b ≡ true)
+both-yes true b e = (refl, e)
+both-yes false b e = absurd (true≢false (sym e))
+
+stamp-of : (t : ℕ) → is-stamp t ≡ true → t < 9007199254740992
+unfolding is-stamp
+stamp-of t e = ltb-true t 9007199254740992 e
+
+-- ---- the tests, the other way
+both : (a b : Bool) → a ≡ true → b ≡ true → a && b ≡ true
+both true b e f = f
+both false b e f = e
+
+no-then : (b x : Bool) → b ≡ false → x ≡ true → cond b false x ≡ true
+no-then true x e f = sym e
+no-then false x e f = f
+
+yes-then : (b x : Bool) → b ≡ true → x ≡ true → cond b x false ≡ true
+yes-then true x e f = f
+yes-then false x e f = e
+
+first-yes : (b x : Bool) → b ≡ true → cond b true x ≡ true
+first-yes true x e = refl
+first-yes false x e = absurd (true≢false (sym e))
+
+second-yes : (b x : Bool) → x ≡ true → cond b true x ≡ true
+second-yes true x e = refl
+second-yes false x e = e
+
+-- ---- each question's part
+pub stamp-is : (t : ℕ) → t < 9007199254740992 → is-stamp t ≡ true
+unfolding is-stamp
+stamp-is t p = lt-ltb t 9007199254740992 p
+
+pub tables-is : (r n : ℕ) → r + n ≡ 64 → tables-whole r n ≡ true
+unfolding tables-whole
+tables-is r n e = yes-then (leb r 64) _ (le-leb r 64 (omega (arith, e))) (yes-then (leb n 64) _ (le-leb n 64 (omega (arith, e))) (first-yes (eqb (r + n) 64) _ (eq-eqb (r + n) 64 e)))
+
+pub tables-sum : (r n : ℕ) → tables-whole r n ≡ true → 1 ≤ r → r + n ≡ 64
+unfolding tables-whole
+tables-sum r n e p =
+    let x = yes-yes (leb r 64) _ e in
+    let y = yes-yes (leb n 64) _ (x .1) in
+    ⊎-elim (λ (q : eqb (r + n) 64 ≡ true). eqb-true (r + n) 64 q) (λ (q : eqb (r + n) 0 ≡ true). omega (arith, eqb-true (r + n) 0 q)) (one-of (eqb (r + n) 64) _ (y .1))
+
+rooms-is : (u c t k : ℕ) → 1 ≤ u → u ≤ 131072 → 2 ≤ c → c ≤ 4097 → t ≤ u → k < c → rooms-whole u c t k ≡ true
+unfolding rooms-whole
+rooms-is u c t k p1 p2 p3 p4 p5 p6 =
+    no-then (ltb u 1) _ (le-ltb u 1 p1) (no-then (ltb 131072 u) _ (le-ltb 131072 u p2) (no-then (ltb c 2) _ (le-ltb c 2 p3)
+    (no-then (ltb 4097 c) _ (le-ltb 4097 c p4) (no-then (ltb u t) _ (le-ltb u t p5) (lt-ltb k c p6)))))
+
+-- ---- a whole head
+module _ (h : Shedder) where
+  pub record Whole : Type 0 where
+    pub rates : rates-whole (h .flow .rate) ≡ true
+    pub clock : h .flow .«at_ms» < 9007199254740992
+    pub at : h .scan .«at_ms» < 9007199254740992
+    pub began : h .scan .«began_ms» < 9007199254740992
+    pub read : h .scan .«read_ms» < 9007199254740992
+    pub tables : tables-whole (h .scan .remaining) (h .scan .next) ≡ true
+    pub units-least : 1 ≤ h .«unit_room»
+    pub units-most : h .«unit_room» ≤ 131072
+    pub counted-least : 2 ≤ h .«counted_room»
+    pub counted-most : h .«counted_room» ≤ 4097
+    pub tracked-held : h .tracked ≤ h .«unit_room»
+    pub counted-held : h .counted < h .«counted_room»
+
+  pub whole-of : head-whole h ≡ true → Whole
+  unfolding head-whole stamps-whole rooms-whole
+  whole-of e =
+      let x = both-yes (rates-whole (h .flow .rate) && stamps-whole (h .flow .«at_ms») (h .scan .«at_ms») (h .scan .«began_ms») (h .scan .«read_ms»)) (tables-whole (h .scan .remaining) (h .scan .next) && rooms-whole (h .«unit_room») (h .«counted_room») (h .tracked) (h .counted)) e in
+      let y = both-yes (rates-whole (h .flow .rate)) (stamps-whole (h .flow .«at_ms») (h .scan .«at_ms») (h .scan .«began_ms») (h .scan .«read_ms»)) (x .0) in
+      let z = both-yes (tables-whole (h .scan .remaining) (h .scan .next)) (rooms-whole (h .«unit_room») (h .«counted_room») (h .tracked) (h .counted)) (x .1) in
+      let s = both-yes (is-stamp (h .flow .«at_ms») && is-stamp (h .scan .«at_ms»)) (is-stamp (h .scan .«began_ms») && is-stamp (h .scan .«read_ms»)) (y .1) in
+      let s1 = both-yes (is-stamp (h .flow .«at_ms»)) (is-stamp (h .scan .«at_ms»)) (s .0) in
+      let s2 = both-yes (is-stamp (h .scan .«began_ms»)) (is-stamp (h .scan .«read_ms»)) (s .1) in
+      let a = no-yes (ltb (h .«unit_room») 1) _ (z .1) in
+      let b = no-yes (ltb 131072 (h .«unit_room»)) _ (a .1) in
+      let d = no-yes (ltb (h .«counted_room») 2) _ (b .1) in
+      let f = no-yes (ltb 4097 (h .«counted_room»)) _ (d .1) in
+      let g = no-yes (ltb (h .«unit_room») (h .tracked)) _ (f .1) in
+      record {
+        rates = y .0;
+        clock = stamp-of (h .flow .«at_ms») (s1 .0);
+        at = stamp-of (h .scan .«at_ms») (s1 .1);
+        began = stamp-of (h .scan .«began_ms») (s2 .0);
+        read = stamp-of (h .scan .«read_ms») (s2 .1);
+        tables = z .0;
+        units-least = ltb-false (h .«unit_room») 1 (a .0);
+        units-most = ltb-false 131072 (h .«unit_room») (b .0);
+        counted-least = ltb-false (h .«counted_room») 2 (d .0);
+        counted-most = ltb-false 4097 (h .«counted_room») (f .0);
+        tracked-held = ltb-false (h .«unit_room») (h .tracked) (g .0);
+        counted-held = ltb-true (h .counted) (h .«counted_room») (g .1);
+      }
+
+  pub whole-is : Whole → head-whole h ≡ true
+  unfolding head-whole stamps-whole
+  whole-is w =
+      both (rates-whole (h .flow .rate) && stamps-whole (h .flow .«at_ms») (h .scan .«at_ms») (h .scan .«began_ms») (h .scan .«read_ms»)) (tables-whole (h .scan .remaining) (h .scan .next) && rooms-whole (h .«unit_room») (h .«counted_room») (h .tracked) (h .counted))
+      (both (rates-whole (h .flow .rate)) (stamps-whole (h .flow .«at_ms») (h .scan .«at_ms») (h .scan .«began_ms») (h .scan .«read_ms»)) (w .rates)
+      (both (is-stamp (h .flow .«at_ms») && is-stamp (h .scan .«at_ms»)) (is-stamp (h .scan .«began_ms») && is-stamp (h .scan .«read_ms»))
+      (both (is-stamp (h .flow .«at_ms»)) (is-stamp (h .scan .«at_ms»)) (stamp-is (h .flow .«at_ms») (w .clock)) (stamp-is (h .scan .«at_ms») (w .at)))
+      (both (is-stamp (h .scan .«began_ms»)) (is-stamp (h .scan .«read_ms»)) (stamp-is (h .scan .«began_ms») (w .began)) (stamp-is (h .scan .«read_ms») (w .read)))))
+      (both (tables-whole (h .scan .remaining) (h .scan .next)) (rooms-whole (h .«unit_room») (h .«counted_room») (h .tracked) (h .counted)) (w .tables)
+      (rooms-is (h .«unit_room») (h .«counted_room») (h .tracked) (h .counted) (w .units-least) (w .units-most) (w .counted-least) (w .counted-most) (w .tracked-held) (w .counted-held)))
+
+-- ---- the memory has the capacities noted
+pub judge-memory : (h : Shedder) (i u s k : ℕ) (cost : List ℕ) (stamp : ℕ) → judge-asked h i u s k cost stamp ≡ 0 → memory-whole h i u s k ≡ true
+unfolding judge-asked
+judge-memory h i u s k cost stamp e =
+    let a = zero-yes (head-whole h) _ 2 e in
+    zero-yes (memory-whole h i u s k) _ 3 (a .1) .0
+
+pub cut-memory : (h : Shedder) (i u s k : ℕ) (cost : List ℕ) → cut-asked h i u s k cost ≡ 0 → memory-whole h i u s k ≡ true
+unfolding cut-asked
+cut-memory h i u s k cost e =
+    let a = zero-yes (head-whole h) _ 2 e in
+    zero-yes (memory-whole h i u s k) _ 3 (a .1) .0
+
+pub memory-counted : (h : Shedder) (i u s k : ℕ) → memory-whole h i u s k ≡ true → k ≡ h .«counted_room»
+unfolding memory-whole
+memory-counted h i u s k e =
+    let a = yes-yes (eqb i (h .«unit_room»)) _ e in
+    let b = yes-yes (eqb u (h .«unit_room»)) _ (a .1) in
+    let d = yes-yes (eqb s (h .«unit_room»)) _ (b .1) in
+    eqb-true k (h .«counted_room») (d .1)
+
+-- ---- a start
+opening-whole : (rate ceiling : List ℕ) (hashes units uses counted : ℕ) → start-asked rate hashes units uses counted ≡ 0 → head-whole (opening rate ceiling hashes counted) ≡ true
+unfolding start-asked sizes-whole opening head-whole stamps-whole is-stamp tables-whole
+opening-whole rate ceiling hashes units uses counted e =
+    let a = zero-yes (rates-whole rate) _ 0 e in
+    let b = zero-yes (sizes-whole hashes units uses counted) 0 1 (a .1) in
+    let d = yes-yes (eqb units hashes) _ (b .0) in
+    let f = yes-yes (eqb uses hashes) _ (d .1) in
+    both (rates-whole rate && true) (true && rooms-whole hashes counted 0 0) (both (rates-whole rate) true (a .0) refl) (f .1)
+
+start-case : (b : Bool) (x y : Beginning) → (b ≡ true → head-whole (x .head) ≡ true) → head-whole (y .head) ≡ true → head-whole (choose b x y .head) ≡ true
+start-case true x y p q = p refl
+start-case false x y p q = q
+
+pub start-whole : (h : Shedder) (hashes units uses counted : ℕ) (g : Hist) (rate ceiling : List ℕ) → start-asked rate hashes units uses counted ≡ 0 → head-whole (start h hashes units uses counted g rate ceiling .head) ≡ true
+unfolding start
+start-whole h hashes units uses counted g rate ceiling e = rw (eq-eqb (start-asked rate hashes units uses counted) 0 e) (opening-whole rate ceiling hashes units uses counted e)
+
+pub start-keeps : (h : Shedder) (hashes units uses counted : ℕ) (g : Hist) (rate ceiling : List ℕ) → head-whole h ≡ true → head-whole (start h hashes units uses counted g rate ceiling .head) ≡ true
+unfolding start
+start-keeps h hashes units uses counted g rate ceiling w =
+    start-case (eqb (start-asked rate hashes units uses counted) 0) _ _ (λ e. opening-whole rate ceiling hashes units uses counted (eqb-true (start-asked rate hashes units uses counted) 0 e)) w
+
+-- ---- of n records n at most are kept
+either-held : (b : Bool) (x y : Kept) (n : ℕ) → x .count ≤ n → y .count ≤ n → either b x y .count ≤ n
+either-held true x y n p q = p
+either-held false x y n p q = q
+
+retain-one-held : (k : Kept) (table now i n : ℕ) → k .count ≤ n → retain-one k table now i .count ≤ suc n
+unfolding retain-one
+retain-one-held k table now i n p =
+    either-held (is-stale (k .rows .hashes) (k .rows .units) table now i) (kept (k .count) (freed (k .rows) i)) _ (suc n) (omega (arith, p))
+    (either-held (ltb (k .count) i) (kept (k .count + 1) (moved (k .rows) i (k .count))) (kept (k .count + 1) (k .rows)) (suc n) (omega (arith, p)) (omega (arith, p)))
+
+pub retained-held : (m : Rows) (table now n : ℕ) → retained m table now n .count ≤ n
+unfolding retained
+retained-held m table now zero = omega arith
+retained-held m table now (suc n) = retain-one-held (retained m table now n) table now n n (retained-held m table now n)
+
+-- ---- the steps of a scan
+choose-whole : (b : Bool) (x y : Shedder) → (b ≡ true → Whole x) → Whole y → Whole (choose b x y)
+choose-whole true x y p q = p refl
+choose-whole false x y p q = q
+
+visited-whole : (h : Shedder) (n : ℕ) → Whole h → 1 ≤ h .scan .remaining → n ≤ h .tracked → Whole (visited h n)
+unfolding visited
+visited-whole h n w p q =
+    let s : h .scan .remaining + h .scan .next ≡ 64 = tables-sum (h .scan .remaining) (h .scan .next) (w .tables) p in
+    record {
+      rates = w .rates;
+      clock = w .clock;
+      at = w .at;
+      began = w .began;
+      read = w .read;
+      tables = tables-is (h .scan .remaining - 1) (h .scan .next + 1) (omega (arith, s, p));
+      units-least = w .units-least;
+      units-most = w .units-most;
+      counted-least = w .counted-least;
+      counted-most = w .counted-most;
+      tracked-held = omega (arith, q, w .tracked-held);
+      counted-held = w .counted-held;
+    }
+
+visit-whole : (s : Scanning) → Whole (s .head) → 1 ≤ s .head .scan .remaining → Whole (visit s .head)
+unfolding visit
+visit-whole s w p = visited-whole (s .head) _ w p (retained-held (s .rows) (s .head .scan .next) (s .head .scan .«at_ms») (s .head .tracked))
+
+choose-scanning : (b : Bool) (x y : Scanning) → (b ≡ true → Whole (x .head)) → Whole (y .head) → Whole (choose b x y .head)
+choose-scanning true x y p q = p refl
+choose-scanning false x y p q = q
+
+again-whole : (s : Scanning) → Whole (s .head) → Whole (again s .head)
+unfolding again
+again-whole s w = choose-scanning (leb 1 (s .head .scan .remaining)) (visit s) s (λ e. visit-whole s w (leb-true 1 (s .head .scan .remaining) e)) w
+
+trimmed-whole : (h : Shedder) (g : Hist) → Whole h → Whole (trimmed h g)
+unfolding trimmed
+trimmed-whole h g w = record {
+  rates = w .rates;
+  clock = w .clock;
+  at = w .at;
+  began = w .began;
+  read = w .clock;
+  tables = w .tables;
+  units-least = w .units-least;
+  units-most = w .units-most;
+  counted-least = w .counted-least;
+  counted-most = w .counted-most;
+  tracked-held = w .tracked-held;
+  counted-held = w .counted-held;
+}
+
+ended-whole : (h : Shedder) (g : Hist) → Whole h → Whole (ended h g)
+unfolding ended
+ended-whole h g w = choose-whole (eqb (h .scan .remaining) 0) (trimmed h g) h (λ e. trimmed-whole h g w) w
+
+opened-whole : (h : Shedder) (clock : ℕ) → Whole h → clock < 9007199254740992 → Whole (opened h clock)
+unfolding opened
+opened-whole h clock w p = record {
+  rates = w .rates;
+  clock = w .clock;
+  at = p;
+  began = p;
+  read = w .read;
+  tables = tables-is 64 0 refl;
+  units-least = w .units-least;
+  units-most = w .units-most;
+  counted-least = w .counted-least;
+  counted-most = w .counted-most;
+  tracked-held = w .tracked-held;
+  counted-held = w .counted-held;
+}
+
+choose-started : (b : Bool) (x y : Started) → Whole (x .head) → Whole (y .head) → Whole (choose b x y .head)
+choose-started true x y p q = p
+choose-started false x y p q = q
+
+begun-whole : (h : Shedder) (g : Hist) (clock : ℕ) → Whole h → clock < 9007199254740992 → Whole (begun h g clock .head)
+unfolding begun
+begun-whole h g clock w p =
+    choose-started (leb 1 (h .scan .remaining)) (started h g) _ w
+    (choose-started (ltb clock (h .scan .«began_ms» + 500)) (started h g) (started (opened h clock) wants.cleared) w (opened-whole h clock w p))
+
+scanned-case : (m : Rows) (b : Started) → Whole (b .head) → Whole (choose (leb 1 (b .head .scan .remaining)) (scanning (ended (again (visit (scanning (b .head) m (b .hist))) .head) (again (visit (scanning (b .head) m (b .hist))) .hist)) (again (visit (scanning (b .head) m (b .hist))) .rows) (again (visit (scanning (b .head) m (b .hist))) .hist)) (scanning (b .head) m (b .hist)) .head)
+scanned-case m b w =
+    choose-scanning (leb 1 (b .head .scan .remaining)) _ (scanning (b .head) m (b .hist))
+    (λ e. ended-whole (again (visit (scanning (b .head) m (b .hist))) .head) _ (again-whole (visit (scanning (b .head) m (b .hist))) (visit-whole (scanning (b .head) m (b .hist)) w (leb-true 1 (b .head .scan .remaining) e)))) w
+
+pub scanned-whole : (s : Scanning) (clock : ℕ) → Whole (s .head) → clock < 9007199254740992 → Whole (scanned s clock .head)
+unfolding scanned
+scanned-whole s clock w p = scanned-case (s .rows) (begun (s .head) (s .hist) clock) (begun-whole (s .head) (s .hist) clock w p)

@@ -1,0 +1,59 @@
+use Rattle.shed.proofs.Passing.{judged-is}
+use native.Mathlib.Omega.{arith}
+use mathlib.Core.Path.{_≡_, refl, sym, ap, _∙_}
+use borrow.Author.Needs.{needs}
+use Rattle.shed.proofs.judged.Statement.{statement}
+use Rattle.shed.proofs.judged.Tie as tie
+use Rattle.shed.proofs.judged.Reads as reads
+use Rattle.shed.proofs.judged.Lts as lts
+use Rattle.shed.proofs.entry.Reads as entry-reads
+use Rattle.shed.proofs.flowed.Reads as flowed-reads
+use Rattle.shed.proofs.outcome.Reads as outcome-reads
+use Rattle.shed.proofs.put_back.Reads as put-back-reads
+use Rattle.shed.proofs.rank_at.Reads as rank-at-reads
+use Rattle.shed.proofs.used_at.Reads as used-at-reads
+
+entry-requires : tie.Need-entry-requires
+entry-requires c κs = (c .before .before .before .before .before .before .before .pre .0, (c .before .before .before .before .before .before .before .pre .1 .0, (c .before .before .before .before .before .before .before .pre .1 .1 .0, (c .before .before .before .before .before .before .before .pre .1 .1 .1 .0, (c .before .before .before .before .before .before .before .pre .1 .1 .1 .1 .1 .0, c .before .before .before .before .before .before .before .pre .1 .1 .1 .1 .1 .1)))))
+
+used-at-requires : tie.Need-used-at-requires
+used-at-requires c κs = search needs
+
+rank-at-requires : tie.Need-rank-at-requires
+rank-at-requires c κs = search needs
+
+outcome-requires : tie.Need-outcome-requires
+outcome-requires c κs = c .before .before .before .before .before .before .before .before .before .before .before .before .before .before .before .before .pre .1 .1 .1 .1 .0
+
+put-back-requires : tie.Need-put-back-requires
+put-back-requires c κs = c .before .before .before .before .before .before .before .before .before .before .before .before .entry .kept .1 .0 ∙ c .before .before .before .before .before .before .before .before .before .before .before .before .before .before .before .before .before .before .before .before .pre .1 .0 ∙ sym (c .before .before .before .before .before .before .before .before .before .before .before .before .before .before .before .before .before .before .before .before .pre .1 .1 .0) ∙ sym (c .before .before .before .before .before .before .before .before .before .before .before .before .entry .kept .1 .1 .0)
+
+flowed-requires : tie.Need-flowed-requires
+flowed-requires c κs = search needs
+
+same-length : tie.Need-same-length
+same-length c = c .before .before .before .before .before .before .before .before .before .before .before .before .before .before .before .before .entry .kept .0
+
+same-length-2 : tie.Need-same-length-2
+same-length-2 c = c .before .before .before .put-back .kept .0 ∙ c .before .before .before .before .before .before .before .before .before .before .before .before .before .before .before .before .entry .kept .1 .0
+
+same-length-3 : tie.Need-same-length-3
+same-length-3 c = c .before .before .before .put-back .kept .1 .0 ∙ c .before .before .before .before .before .before .before .before .before .before .before .before .before .before .before .before .entry .kept .1 .1 .0
+
+returns : tie.Need-returns
+returns c = (judged-is (c .before .before .before .before .before .before .before .before .before .before .before .before .before .before .before .before .before .before .before .before .before .before .before .before .args .head) _ (c .before .before .before .before .before .before .before .before .before .before .before .before .before .before .before .before .before .before .before .before .before .before .before .before .args .unit) (c .before .before .before .before .before .before .before .before .before .before .before .before .before .before .before .before .before .before .before .before .before .before .before .before .args .name) (c .before .before .before .before .before .before .before .before .before .before .before .before .before .before .before .before .before .before .before .before .before .before .before .before .args .cost) (c .before .before .before .before .before .before .before .before .before .before .before .before .before .before .before .before .before .before .before .before .before .before .before .before .args .clock) (c .before .before .before .before .before .before .before .before .before .before .before .before .before .before .before .before .entry .result) _ _ _ _ _ (c .before .before .before .before .before .before .before .before .before .used-at .result) (c .before .before .before .put-back .result) (c .before .before .before .before .before .before .before .before .rank-at .result) (c .before .before .before .before .before .before .before .outcome .result) (c .flowed .result) (c .before .before .before .before .before .before .before .before .before .before .before .before .before .before .before .before .before .before .before .before .before .before .before .before .pre .1 .1 .1 .1 .1 .0) (c .before .before .before .before .before .before .before .before .before .before .before .before .before .before .before .before .entry .ensures .0) (c .before .before .before .before .before .before .before .before .before .used-at .ensures) (c .before .before .before .before .before .before .before .before .rank-at .ensures) (c .before .before .before .before .before .before .before .outcome .ensures) (c .before .before .before .put-back .ensures) (c .flowed .ensures), (c .before .before .before .before .before .before .before .before .before .before .before .before .before .before .before .before .entry .ensures .1, (refl, refl)))
+
+pub judged-spec : {M : Type 1} → statement M
+judged-spec =
+    tie.close
+    (tie.spec
+    entry-requires
+    used-at-requires
+    rank-at-requires
+    outcome-requires
+    put-back-requires
+    flowed-requires
+    same-length
+    same-length-2
+    same-length-3
+    returns)

@@ -1,0 +1,21 @@
+use Rattle.shed.specs.Counting.{added}
+use mathlib.Core.Path.{_≡_, refl, sym, ap, _∙_}
+use borrow.Author.Needs.{needs}
+use Rattle.shed.proofs.tally.added.Statement.{statement}
+use Rattle.shed.proofs.tally.added.Tie as tie
+use Rattle.shed.proofs.tally.added.Reads as reads
+use Rattle.shed.proofs.tally.added.Lts as lts
+use Rattle.shed.proofs.tally.upped.Reads as upped-reads
+
+upped-requires : tie.Need-upped-requires
+upped-requires c κs = search needs
+
+upped-requires-2 : tie.Need-upped-requires-2
+upped-requires-2 c κs = search needs
+
+returns : tie.Need-returns
+unfolding added
+returns c = simp (c .before .upped .ensures, c .upped2 .ensures)
+
+pub added-spec : {M : Type 1} → statement M
+added-spec = tie.close (tie.spec upped-requires upped-requires-2 returns)

@@ -1,0 +1,23 @@
+use Rattle.shed.specs.Entering.{used-at}
+use borrow.Author.Tests.{eq-eqb, ne-eqb, lt-ltb, le-ltb, eqb-true, le-leb, lt-leb}
+use mathlib.Core.Path.{_≡_, refl, sym, ap, _∙_}
+use borrow.Author.Needs.{needs}
+use Rattle.shed.proofs.used_at.Statement.{statement}
+use Rattle.shed.proofs.used_at.Tie as tie
+use Rattle.shed.proofs.used_at.Reads as reads
+use Rattle.shed.proofs.used_at.Lts as lts
+use Rattle.store.proofs.use_at.Reads as use-at-reads
+
+use-at-requires : tie.Need-use-at-requires
+use-at-requires c κs = search needs
+
+returns : tie.Need-returns
+unfolding used-at
+returns c = simp (lt-ltb _ _ (c .before .if1 .taken)) (c .use-at .ensures)
+
+returns-2 : tie.Need-returns-2
+unfolding used-at
+returns-2 c = simp (le-ltb _ _ (c .if1 .left))
+
+pub used-at-spec : {M : Type 1} → statement M
+used-at-spec = tie.close (tie.spec use-at-requires returns returns-2)

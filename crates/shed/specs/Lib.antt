@@ -1,0 +1,5 @@
+pub mod Judging
+pub mod Entering
+pub mod Counting
+pub mod Cutting
+pub mod Whole
