@@ -1,0 +1,57 @@
+use Rattle.report.proofs.Writing.{source-put}
+use borrow.Author.Needs.{needs}
+use Rattle.report.proofs.lines.put_source.Statement.{statement}
+use Rattle.report.proofs.lines.put_source.Tie as tie
+use Rattle.report.proofs.lines.put_source.Reads as reads
+use Rattle.report.proofs.lines.put_source.Lts as lts
+use Rattle.report.proofs.lines.put_numbers.Reads as put-numbers-reads
+use Rattle.report.proofs.sources.counts_at.Reads as counts-at-reads
+use Rattle.report.proofs.sources.unit_at.Reads as unit-at-reads
+use Rattle.sender.proofs.label.write_label.Reads as write-label-reads
+use Rattle.text.proofs.put.Reads as put-reads
+use Rattle.text.proofs.put_byte.Reads as put-byte-reads
+
+counts-at-requires : tie.Need-counts-at-requires
+counts-at-requires c κs = search needs
+
+slice-aggregate-put : tie.Need-slice-aggregate-put
+slice-aggregate-put c = search needs
+
+put-requires : tie.Need-put-requires
+put-requires c κs = search needs
+
+put-byte-requires : tie.Need-put-byte-requires
+put-byte-requires c κs = search needs
+
+unit-at-requires : tie.Need-unit-at-requires
+unit-at-requires c κs = search needs
+
+write-label-requires : tie.Need-write-label-requires
+write-label-requires c κs = search needs
+
+slice-aggregate-put-numbers : tie.Need-slice-aggregate-put-numbers
+slice-aggregate-put-numbers c = search needs
+
+put-numbers-requires : tie.Need-put-numbers-requires
+put-numbers-requires c κs = search needs
+
+same-length : tie.Need-same-length
+same-length c = search needs
+
+returns : tie.Need-returns
+returns c = source-put (c .before .before .before .before .before .before .before .before .before .before .before .before .before .before .before .before .before .before .before .before .before .args .counted .now) (c .before .before .before .before .before .before .before .before .before .before .before .before .before .before .before .before .before .before .before .before .before .args .i) _ (c .before .before .before .before .before .before .before .before .before .unit-at .result) (c .before .before .before .before .before .before .before .before .before .before .before .before .before .before .before .before .before .before .before .counts-at .result) (c .before .before .before .before .before .before .before .before .before .unit-at .ensures) (c .before .before .before .before .before .before .before .before .before .before .before .before .before .before .before .before .before .before .before .counts-at .ensures) (c .before .before .before .before .before .before .before .before .before .before .before .before .before .before .before .before .put .ensures) (c .before .before .before .before .before .before .before .before .before .before .before .before .put-byte .ensures) (c .before .before .before .before .before .before .before .write-label .ensures) (c .before .before .put-numbers .ensures)
+
+pub put-source-spec : {M : Type 1} → statement M
+put-source-spec =
+    tie.close
+    (tie.spec
+    counts-at-requires
+    slice-aggregate-put
+    put-requires
+    put-byte-requires
+    unit-at-requires
+    write-label-requires
+    slice-aggregate-put-numbers
+    put-numbers-requires
+    same-length
+    returns)

@@ -1,0 +1,30 @@
+use mathlib.Core.Path.{_≡_, refl, sym, ap, _∙_}
+use native.Mathlib.Omega.{arith}
+use lib.ListN.{length}
+use Prim.Native.Nat.{_+_, _*_}
+use Rattle.report.specs.Sources.{most-named}
+use Rattle.report.specs.Lines.{head-most}
+use Rattle.report.proofs.Writing.{text-put}
+use Rattle.report.proofs.Lengths.{text-short}
+use borrow.Author.Needs.{needs}
+use Rattle.report.proofs.lines.write_text.Statement.{statement}
+use Rattle.report.proofs.lines.write_text.Tie as tie
+use Rattle.report.proofs.lines.write_text.Reads as reads
+use Rattle.report.proofs.lines.write_text.Lts as lts
+use Rattle.report.proofs.lines.put_head.Reads as put-head-reads
+use Rattle.report.proofs.lines.put_sources.Reads as put-sources-reads
+
+put-head-requires : tie.Need-put-head-requires
+put-head-requires c κs = search needs
+
+put-sources-requires : tie.Need-put-sources-requires
+put-sources-requires c κs = search needs
+
+returns : tie.Need-returns
+returns c =
+    let room : length (c .before .before .before .before .args .own .now) ≡ head-most + most-named * 139 = c .before .before .before .put-head-arg .given .0 .1 in
+    text-put (c .before .before .before .before .args .head) (c .before .before .before .before .args .counted .now) (c .before .before .before .before .args .own .now) (c .put-sources .last .0) (c .put-sources .result)
+    (omega (arith, room, text-short (c .before .before .before .before .args .head) (c .before .before .before .before .args .counted .now) (c .before .before .put-head .ensures .1))) (c .before .before .put-head .ensures .0) (c .put-sources .ensures)
+
+pub write-text-spec : {M : Type 1} → statement M
+write-text-spec = tie.close (tie.spec put-head-requires put-sources-requires returns)

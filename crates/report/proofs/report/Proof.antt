@@ -1,0 +1,25 @@
+use mathlib.Core.Path.{_≡_, refl, sym, ap, _∙_}
+use Rattle.report.proofs.Asking.{part, part-length}
+use borrow.Author.Needs.{needs}
+use Rattle.report.proofs.report.Statement.{statement}
+use Rattle.report.proofs.report.Tie as tie
+use Rattle.report.proofs.report.Reads as reads
+use Rattle.report.proofs.report.Lts as lts
+use Rattle.report.proofs.bytes.Reads as bytes-reads
+use Rattle.report.proofs.write_report.Reads as write-report-reads
+
+write-report-requires : tie.Need-write-report-requires
+write-report-requires c κs = search needs
+
+bytes-requires : tie.Need-bytes-requires
+bytes-requires c κs = search needs
+
+slice-aggregate-result : tie.Need-slice-aggregate-result
+slice-aggregate-result c = part-length (c .before .before .before .before .before .before .before .before .args .head) _ _ _ (c .before .before .before .before .before .before .before .before .args .counted .now) (c .before .before .before .before .before .before .before .before .args .out .now) (c .before .before .before .before .write-report .result) _ (c .before .bytes .result) (c .before .before .before .before .write-report .ensures .0) (c .before .bytes .ensures)
+
+returns : tie.Need-returns
+returns c = part (c .before .before .before .before .before .before .before .before .args .head) _ _ _ (c .before .before .before .before .before .before .before .before .args .counted .now) (c .before .before .before .before .before .before .before .before .args .out .now) (c .before .before .before .before .write-report .result) _ (c .before .bytes .result) (c .before .before .before .before .write-report .ensures .0) (c .before .bytes .ensures)
+
+pub report-spec : {M : Type 1} → statement M
+report-spec =
+    tie.close (tie.spec write-report-requires bytes-requires slice-aggregate-result returns)

@@ -1,0 +1,27 @@
+use Rattle.report.specs.Sources.{earlier}
+use borrow.Author.Tests.{eq-eqb, ne-eqb, lt-ltb, le-ltb}
+use mathlib.Core.Path.{_≡_, refl, sym, ap, _∙_}
+use borrow.Author.Needs.{needs}
+use Rattle.report.proofs.sources.earlier.Statement.{statement}
+use Rattle.report.proofs.sources.earlier.Tie as tie
+use Rattle.report.proofs.sources.earlier.Reads as reads
+use Rattle.report.proofs.sources.earlier.Lts as lts
+use Rattle.report.proofs.sources.precedes.Reads as precedes-reads
+
+returns : tie.Need-returns
+unfolding earlier
+returns c = (simp (eq-eqb _ _ (c .if1 .taken)), search needs)
+
+precedes-requires : tie.Need-precedes-requires
+precedes-requires c κs = search needs
+
+returns-2 : tie.Need-returns-2
+unfolding earlier
+returns-2 c = (simp (ne-eqb _ _ (c .before .before .if1 .left), sym (c .before .precedes .ensures), c .if2 .taken), search needs)
+
+returns-3 : tie.Need-returns-3
+unfolding earlier
+returns-3 c = (simp (ne-eqb _ _ (c .before .before .if1 .left), sym (c .before .precedes .ensures), c .if2 .left), search needs)
+
+pub earlier-spec : {M : Type 1} → statement M
+earlier-spec = tie.close (tie.spec returns precedes-requires returns-2 returns-3)

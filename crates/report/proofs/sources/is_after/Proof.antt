@@ -1,0 +1,23 @@
+use Rattle.report.specs.Sources.{is-after}
+use borrow.Author.Tests.{eq-eqb, ne-eqb, lt-ltb, le-ltb}
+use mathlib.Core.Path.{_≡_, refl, sym, ap, _∙_}
+use borrow.Author.Needs.{needs}
+use Rattle.report.proofs.sources.is_after.Statement.{statement}
+use Rattle.report.proofs.sources.is_after.Tie as tie
+use Rattle.report.proofs.sources.is_after.Reads as reads
+use Rattle.report.proofs.sources.is_after.Lts as lts
+use Rattle.report.proofs.sources.precedes.Reads as precedes-reads
+
+returns : tie.Need-returns
+unfolding is-after
+returns c = simp (eq-eqb _ _ (c .if1 .taken))
+
+precedes-requires : tie.Need-precedes-requires
+precedes-requires c κs = search needs
+
+returns-2 : tie.Need-returns-2
+unfolding is-after
+returns-2 c = simp (ne-eqb _ _ (c .before .if1 .left)) (c .precedes .ensures)
+
+pub is-after-spec : {M : Type 1} → statement M
+is-after-spec = tie.close (tie.spec returns precedes-requires returns-2)

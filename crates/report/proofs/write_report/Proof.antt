@@ -1,0 +1,44 @@
+use mathlib.Core.Path.{_≡_, refl, sym, ap, _∙_}
+use Rattle.report.specs.Report.{number}
+use Rattle.report.proofs.Asking.{written, answer-number}
+use borrow.Author.Needs.{needs}
+use Rattle.report.proofs.write_report.Statement.{statement}
+use Rattle.report.proofs.write_report.Tie as tie
+use Rattle.report.proofs.write_report.Reads as reads
+use Rattle.report.proofs.write_report.Lts as lts
+use Rattle.report.proofs.bytes.Reads as bytes-reads
+use Rattle.report.proofs.composed.Reads as composed-reads
+use Rattle.text.proofs.put.Reads as put-reads
+
+composed-requires : tie.Need-composed-requires
+composed-requires c κs = search needs
+
+bytes-requires : tie.Need-bytes-requires
+bytes-requires c κs = search needs
+
+array-share-prefix-own : tie.Need-array-share-prefix-own
+array-share-prefix-own c = search needs
+
+slice-aggregate-put : tie.Need-slice-aggregate-put
+slice-aggregate-put c = rw (c .before .before .bytes .ensures) (c .before .before .before .composed .ensures .1 .0 .1)
+
+put-requires : tie.Need-put-requires
+put-requires c κs = search needs
+
+same-length : tie.Need-same-length
+same-length c = search needs
+
+returns : tie.Need-returns
+returns c = (written (c .before .before .before .before .before .before .before .before .before .before .args .head) _ _ _ (c .before .before .before .before .before .before .before .before .before .before .args .counted .now) (c .before .before .before .before .before .before .before .before .before .before .args .out .now) _ _ _ _ _ (c .before .before .before .before .before .before .composed .ensures .0) (c .before .before .before .before .before .bytes .ensures) (c .before .before .before .before .before .before .composed .ensures .1 .1) (c .before .before .put .ensures), ap number (c .before .before .before .before .before .before .composed .ensures .0) ∙ answer-number _ _ _ _ _ _)
+
+pub write-report-spec : {M : Type 1} → statement M
+write-report-spec =
+    tie.close
+    (tie.spec
+    composed-requires
+    bytes-requires
+    array-share-prefix-own
+    slice-aggregate-put
+    put-requires
+    same-length
+    returns)

@@ -1,0 +1,4 @@
+pub mod Sources
+pub mod Lines
+pub mod Report
+pub mod Laws
