@@ -175,7 +175,7 @@ all-after : (rows : List (List ℕ)) (n i : ℕ) → is-after rows n n i ≡ tru
 unfolding is-after
 all-after rows n i = simp (eq-eqb n n refl)
 
-pub front : (rows : List (List ℕ)) (n : ℕ) → Front rows n most-named (reported rows n)
+pub front : (rows : List (List ℕ)) (n : ℕ) → Front rows n 16 (reported rows n)
 front rows n =
     let w = from rows n most-named n in
     record { few = w .few; held = w .held; ordered = w .ordered; left-out = λ i h f. w .left-out i h (all-after rows n i) f }

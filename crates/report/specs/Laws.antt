@@ -7,7 +7,7 @@ use mathlib.Core.List.{List}
 use lib.ListN.{length, getD}
 use Rattle.text.specs.Order.{less}
 use Rattle.store.specs.Store.{total-at}
-use Rattle.report.specs.Sources.{label-at, precedes, most-named, reported}
+use Rattle.report.specs.Sources.{label-at, precedes, reported}
 
 -- document 01's words: larger total first, then label by bytes, then store order
 abbrev pub Before : List (List ℕ) → ℕ → ℕ → Type 0
@@ -35,4 +35,4 @@ pub record Front (rows : List (List ℕ)) (n most : ℕ) (l : List ℕ) : Type 0
 
 pub record Naming : Type 0 where
   pub order : (rows : List (List ℕ)) → Order rows
-  pub front : (rows : List (List ℕ)) (n : ℕ) → Front rows n most-named (reported rows n)
+  pub front : (rows : List (List ℕ)) (n : ℕ) → Front rows n 16 (reported rows n)

@@ -8,11 +8,6 @@ use Rattle.report.proofs.Asking.{counted-held, asked-head, asked-memory
 use borrow.Author.Needs.{needs}
 use Rattle.report.proofs.composed.Statement.{statement}
 use Rattle.report.proofs.composed.Tie as tie
-use Rattle.report.proofs.composed.Reads as reads
-use Rattle.report.proofs.composed.Lts as lts
-use Rattle.head.proofs.head_whole.Reads as head-whole-reads
-use Rattle.head.proofs.memory_whole.Reads as memory-whole-reads
-use Rattle.report.proofs.lines.write_text.Reads as write-text-reads
 
 head-whole-requires : tie.Need-head-whole-requires
 head-whole-requires c κs = search needs

@@ -1,12 +1,8 @@
-use mathlib.Core.Path.{_≡_, refl, sym, ap, _∙_}
+-- `report` meets its contract: the front part of what `write_report` left. Assumes nothing.
 use Rattle.report.proofs.Asking.{part, part-length}
 use borrow.Author.Needs.{needs}
 use Rattle.report.proofs.report.Statement.{statement}
 use Rattle.report.proofs.report.Tie as tie
-use Rattle.report.proofs.report.Reads as reads
-use Rattle.report.proofs.report.Lts as lts
-use Rattle.report.proofs.bytes.Reads as bytes-reads
-use Rattle.report.proofs.write_report.Reads as write-report-reads
 
 write-report-requires : tie.Need-write-report-requires
 write-report-requires c κs = search needs

@@ -1,13 +1,10 @@
-use mathlib.Core.Path.{_≡_, refl, sym, ap, _∙_}
+-- `report_refusal` meets its contract: the number of the answer composed. Assumes nothing.
+use mathlib.Core.Path.{ap, _∙_}
 use Rattle.report.specs.Report.{number}
 use Rattle.report.proofs.Asking.{answer-number}
 use borrow.Author.Needs.{needs}
 use Rattle.report.proofs.report_refusal.Statement.{statement}
 use Rattle.report.proofs.report_refusal.Tie as tie
-use Rattle.report.proofs.report_refusal.Reads as reads
-use Rattle.report.proofs.report_refusal.Lts as lts
-use Rattle.report.proofs.composed.Reads as composed-reads
-use Rattle.report.proofs.number.Reads as number-reads
 
 composed-requires : tie.Need-composed-requires
 composed-requires c κs = search needs

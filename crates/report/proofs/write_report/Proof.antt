@@ -1,14 +1,10 @@
-use mathlib.Core.Path.{_≡_, refl, sym, ap, _∙_}
+-- `write_report` meets its contract: the text composed before is put whole, or nothing is. Assumes nothing.
+use mathlib.Core.Path.{ap, _∙_}
 use Rattle.report.specs.Report.{number}
 use Rattle.report.proofs.Asking.{written, answer-number}
 use borrow.Author.Needs.{needs}
 use Rattle.report.proofs.write_report.Statement.{statement}
 use Rattle.report.proofs.write_report.Tie as tie
-use Rattle.report.proofs.write_report.Reads as reads
-use Rattle.report.proofs.write_report.Lts as lts
-use Rattle.report.proofs.bytes.Reads as bytes-reads
-use Rattle.report.proofs.composed.Reads as composed-reads
-use Rattle.text.proofs.put.Reads as put-reads
 
 composed-requires : tie.Need-composed-requires
 composed-requires c κs = search needs

@@ -1,10 +1,8 @@
+-- `lines::put_cause` meets its contract: a line of two numbers. Assumes nothing.
 use Rattle.report.specs.Lines.{cause-line}
 use borrow.Author.Needs.{needs}
 use Rattle.report.proofs.lines.put_cause.Statement.{statement}
 use Rattle.report.proofs.lines.put_cause.Tie as tie
-use Rattle.report.proofs.lines.put_cause.Reads as reads
-use Rattle.report.proofs.lines.put_cause.Lts as lts
-use Rattle.report.proofs.lines.put_line.Reads as put-line-reads
 
 mul-t9 : tie.Need-mul-t9
 mul-t9 c = search needs

@@ -1,15 +1,10 @@
-use mathlib.Core.Path.{_≡_, refl, sym, ap, _∙_}
+-- `lines::put_head` meets its contract: six lines one after the other, and how long they can be. Assumes nothing.
+use mathlib.Core.Path.{sym}
 use Rattle.report.proofs.Lengths.{head-short}
 use Rattle.report.proofs.Writing.{head-put}
 use borrow.Author.Needs.{needs}
 use Rattle.report.proofs.lines.put_head.Statement.{statement}
 use Rattle.report.proofs.lines.put_head.Tie as tie
-use Rattle.report.proofs.lines.put_head.Reads as reads
-use Rattle.report.proofs.lines.put_head.Lts as lts
-use Rattle.head.proofs.is_unbounded.Reads as is-unbounded-reads
-use Rattle.report.proofs.lines.put_cause.Reads as put-cause-reads
-use Rattle.report.proofs.lines.put_line.Reads as put-line-reads
-use Rattle.report.proofs.lines.put_rates.Reads as put-rates-reads
 
 is-unbounded-requires : tie.Need-is-unbounded-requires
 is-unbounded-requires c κs = search needs

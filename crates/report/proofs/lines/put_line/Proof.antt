@@ -1,13 +1,10 @@
+-- `lines::put_line` meets its contract: a word, then its numbers. Assumes nothing.
 use Rattle.report.specs.Lines.{line, numbers}
-use Rattle.text.specs.Page.{Page, page, write, writes}
-use mathlib.Core.Path.{_≡_, refl, sym, ap, _∙_}
+use Rattle.text.specs.Page.{Page, writes}
+use mathlib.Core.Path.{ap, _∙_}
 use borrow.Author.Needs.{needs}
 use Rattle.report.proofs.lines.put_line.Statement.{statement}
 use Rattle.report.proofs.lines.put_line.Tie as tie
-use Rattle.report.proofs.lines.put_line.Reads as reads
-use Rattle.report.proofs.lines.put_line.Lts as lts
-use Rattle.report.proofs.lines.put_numbers.Reads as put-numbers-reads
-use Rattle.text.proofs.put.Reads as put-reads
 
 put-requires : tie.Need-put-requires
 put-requires c κs = search needs

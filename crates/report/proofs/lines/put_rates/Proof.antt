@@ -1,14 +1,10 @@
+-- `lines::put_rates` meets its contract: `none`, or a line of numbers. Assumes nothing.
 use Rattle.report.specs.Lines.{line-feed, none, space, rates-line}
-use Rattle.text.specs.Page.{Page, page, write, writes}
-use mathlib.Core.Path.{_≡_, refl, sym, ap, _∙_}
+use Rattle.text.specs.Page.{Page, write, writes}
+use mathlib.Core.Path.{ap, _∙_}
 use borrow.Author.Needs.{needs}
 use Rattle.report.proofs.lines.put_rates.Statement.{statement}
 use Rattle.report.proofs.lines.put_rates.Tie as tie
-use Rattle.report.proofs.lines.put_rates.Reads as reads
-use Rattle.report.proofs.lines.put_rates.Lts as lts
-use Rattle.report.proofs.lines.put_line.Reads as put-line-reads
-use Rattle.text.proofs.put.Reads as put-reads
-use Rattle.text.proofs.put_byte.Reads as put-byte-reads
 
 put-requires : tie.Need-put-requires
 put-requires c κs = search needs

@@ -1,15 +1,8 @@
+-- `lines::put_source` meets its contract: a word, a label, three numbers. Assumes nothing.
 use Rattle.report.proofs.Writing.{source-put}
 use borrow.Author.Needs.{needs}
 use Rattle.report.proofs.lines.put_source.Statement.{statement}
 use Rattle.report.proofs.lines.put_source.Tie as tie
-use Rattle.report.proofs.lines.put_source.Reads as reads
-use Rattle.report.proofs.lines.put_source.Lts as lts
-use Rattle.report.proofs.lines.put_numbers.Reads as put-numbers-reads
-use Rattle.report.proofs.sources.counts_at.Reads as counts-at-reads
-use Rattle.report.proofs.sources.unit_at.Reads as unit-at-reads
-use Rattle.sender.proofs.label.write_label.Reads as write-label-reads
-use Rattle.text.proofs.put.Reads as put-reads
-use Rattle.text.proofs.put_byte.Reads as put-byte-reads
 
 counts-at-requires : tie.Need-counts-at-requires
 counts-at-requires c κs = search needs

@@ -1,18 +1,15 @@
+-- `lines::put_sources` meets its contract: the loop has the sources after the last one still to write. Assumes nothing.
 use Rattle.report.proofs.Writing.{sources-next, sources-none, sources-end}
 use Rattle.report.specs.Lines.{source-lines}
 use Rattle.report.specs.Sources.{named, reported}
-use Rattle.text.specs.Page.{Page, page, write, writes}
+use Rattle.text.specs.Page.{page, writes}
 use lib.ListN.{length}
 use native.Mathlib.Omega.{arith}
-use Prim.Native.Nat.{ℕ, _≤_, _<_, _-_, _+_}
+use Prim.Native.Nat.{_≤_}
 use borrow.Author.Needs.{needs}
-use mathlib.Core.Path.{_≡_, refl, sym, ap, _∙_}
+use mathlib.Core.Path.{_≡_, refl, sym, _∙_}
 use Rattle.report.proofs.lines.put_sources.Statement.{statement}
 use Rattle.report.proofs.lines.put_sources.Tie as tie
-use Rattle.report.proofs.lines.put_sources.Reads as reads
-use Rattle.report.proofs.lines.put_sources.Lts as lts
-use Rattle.report.proofs.lines.put_source.Reads as put-source-reads
-use Rattle.report.proofs.sources.first_after.Reads as first-after-reads
 
 abbrev Inv-loop : tie.InvT-loop
 Inv-loop out₀ at counted n end₀ last₀ left₀ out end last left = (last ≤ n) × (n ≤ length counted) × (length out ≡ length out₀) × (writes (page out₀ at) (source-lines counted (reported counted n)) ≡ writes (page out end) (source-lines counted (named counted n left last)))

@@ -1,4 +1,5 @@
-use mathlib.Core.Path.{_≡_, refl, sym, ap, _∙_}
+-- `lines::write_text` meets its contract: the lines of the head and of the sources, in a buffer with room for any text. Assumes nothing.
+use mathlib.Core.Path.{_≡_}
 use native.Mathlib.Omega.{arith}
 use lib.ListN.{length}
 use Prim.Native.Nat.{_+_, _*_}
@@ -9,10 +10,6 @@ use Rattle.report.proofs.Lengths.{text-short}
 use borrow.Author.Needs.{needs}
 use Rattle.report.proofs.lines.write_text.Statement.{statement}
 use Rattle.report.proofs.lines.write_text.Tie as tie
-use Rattle.report.proofs.lines.write_text.Reads as reads
-use Rattle.report.proofs.lines.write_text.Lts as lts
-use Rattle.report.proofs.lines.put_head.Reads as put-head-reads
-use Rattle.report.proofs.lines.put_sources.Reads as put-sources-reads
 
 put-head-requires : tie.Need-put-head-requires
 put-head-requires c κs = search needs

@@ -1,12 +1,9 @@
+-- `sources::better` meets its contract: one source looked at. Assumes nothing.
 use Rattle.report.specs.Sources.{better}
-use mathlib.Core.Path.{_≡_, refl, sym, ap, _∙_}
+use mathlib.Core.Path.{sym}
 use borrow.Author.Needs.{needs}
 use Rattle.report.proofs.sources.better.Statement.{statement}
 use Rattle.report.proofs.sources.better.Tie as tie
-use Rattle.report.proofs.sources.better.Reads as reads
-use Rattle.report.proofs.sources.better.Lts as lts
-use Rattle.report.proofs.sources.earlier.Reads as earlier-reads
-use Rattle.report.proofs.sources.is_after.Reads as is-after-reads
 
 is-after-requires : tie.Need-is-after-requires
 is-after-requires c κs = search needs

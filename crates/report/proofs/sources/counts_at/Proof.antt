@@ -1,9 +1,8 @@
+-- `sources::counts_at` meets its contract: the row's last three words. Assumes nothing.
 use Rattle.report.specs.Sources.{counts-at}
 use borrow.Author.Needs.{needs}
 use Rattle.report.proofs.sources.counts_at.Statement.{statement}
 use Rattle.report.proofs.sources.counts_at.Tie as tie
-use Rattle.report.proofs.sources.counts_at.Reads as reads
-use Rattle.report.proofs.sources.counts_at.Lts as lts
 
 mul-row : tie.Need-mul-row
 mul-row c = search needs

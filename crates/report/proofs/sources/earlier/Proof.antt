@@ -1,12 +1,10 @@
+-- `sources::earlier` meets its contract: the earlier of two. Assumes nothing.
 use Rattle.report.specs.Sources.{earlier}
-use borrow.Author.Tests.{eq-eqb, ne-eqb, lt-ltb, le-ltb}
-use mathlib.Core.Path.{_≡_, refl, sym, ap, _∙_}
+use borrow.Author.Tests.{eq-eqb, ne-eqb}
+use mathlib.Core.Path.{sym}
 use borrow.Author.Needs.{needs}
 use Rattle.report.proofs.sources.earlier.Statement.{statement}
 use Rattle.report.proofs.sources.earlier.Tie as tie
-use Rattle.report.proofs.sources.earlier.Reads as reads
-use Rattle.report.proofs.sources.earlier.Lts as lts
-use Rattle.report.proofs.sources.precedes.Reads as precedes-reads
 
 returns : tie.Need-returns
 unfolding earlier

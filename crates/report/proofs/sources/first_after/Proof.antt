@@ -1,15 +1,13 @@
+-- `sources::first_after` meets its contract: the loop holds the earliest of those passed. Assumes nothing.
 use Rattle.report.proofs.Writing.{first-none, first-next}
 use Rattle.report.specs.Sources.{first-after, better}
 use lib.ListN.{length}
 use native.Mathlib.Omega.{arith}
-use Prim.Native.Nat.{ℕ, _≤_, _<_, _-_, _+_}
+use Prim.Native.Nat.{ℕ, _≤_, _-_}
 use borrow.Author.Needs.{needs}
-use mathlib.Core.Path.{_≡_, refl, sym, ap, _∙_}
+use mathlib.Core.Path.{_≡_, sym, ap, _∙_}
 use Rattle.report.proofs.sources.first_after.Statement.{statement}
 use Rattle.report.proofs.sources.first_after.Tie as tie
-use Rattle.report.proofs.sources.first_after.Reads as reads
-use Rattle.report.proofs.sources.first_after.Lts as lts
-use Rattle.report.proofs.sources.better.Reads as better-reads
 
 abbrev Inv-loop : tie.InvT-loop
 Inv-loop counted n p best₀ i₀ best i = (i ≤ n) × (n ≤ length counted) × (p ≤ n) × (best ≤ n) × (best ≡ first-after counted n p i)

@@ -1,12 +1,9 @@
+-- `sources::is_after` meets its contract: each source comes after none. Assumes nothing.
 use Rattle.report.specs.Sources.{is-after}
-use borrow.Author.Tests.{eq-eqb, ne-eqb, lt-ltb, le-ltb}
-use mathlib.Core.Path.{_≡_, refl, sym, ap, _∙_}
+use borrow.Author.Tests.{eq-eqb, ne-eqb}
 use borrow.Author.Needs.{needs}
 use Rattle.report.proofs.sources.is_after.Statement.{statement}
 use Rattle.report.proofs.sources.is_after.Tie as tie
-use Rattle.report.proofs.sources.is_after.Reads as reads
-use Rattle.report.proofs.sources.is_after.Lts as lts
-use Rattle.report.proofs.sources.precedes.Reads as precedes-reads
 
 returns : tie.Need-returns
 unfolding is-after

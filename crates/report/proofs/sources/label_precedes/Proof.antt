@@ -1,12 +1,9 @@
+-- `sources::label_precedes` meets its contract: labels, then places. Assumes nothing.
 use Rattle.report.specs.Sources.{label-precedes}
-use mathlib.Core.Path.{_≡_, refl, sym, ap, _∙_}
+use mathlib.Core.Path.{sym}
 use borrow.Author.Needs.{needs}
 use Rattle.report.proofs.sources.label_precedes.Statement.{statement}
 use Rattle.report.proofs.sources.label_precedes.Tie as tie
-use Rattle.report.proofs.sources.label_precedes.Reads as reads
-use Rattle.report.proofs.sources.label_precedes.Lts as lts
-use Rattle.report.proofs.sources.unit_at.Reads as unit-at-reads
-use Rattle.sender.proofs.label.label_less.Reads as label-less-reads
 
 unit-at-requires : tie.Need-unit-at-requires
 unit-at-requires c κs = search needs

@@ -1,13 +1,10 @@
+-- `sources::precedes` meets its contract: totals first. Assumes nothing.
 use Rattle.report.specs.Sources.{precedes}
-use borrow.Author.Tests.{eq-eqb, ne-eqb, lt-ltb, le-ltb}
-use mathlib.Core.Path.{_≡_, refl, sym, ap, _∙_}
+use borrow.Author.Tests.{lt-ltb, le-ltb}
+use mathlib.Core.Path.{sym}
 use borrow.Author.Needs.{needs}
 use Rattle.report.proofs.sources.precedes.Statement.{statement}
 use Rattle.report.proofs.sources.precedes.Tie as tie
-use Rattle.report.proofs.sources.precedes.Reads as reads
-use Rattle.report.proofs.sources.precedes.Lts as lts
-use Rattle.report.proofs.sources.label_precedes.Reads as label-precedes-reads
-use Rattle.store.proofs.total_at.Reads as total-at-reads
 
 total-at-requires : tie.Need-total-at-requires
 total-at-requires c κs = search needs

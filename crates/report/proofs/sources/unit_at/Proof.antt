@@ -1,11 +1,9 @@
+-- `sources::unit_at` meets its contract: the unit that the row's first five words name. Assumes nothing.
 use Rattle.store.specs.Store.{words-at}
 use Rattle.report.specs.Sources.{unit-at}
 use borrow.Author.Needs.{needs}
 use Rattle.report.proofs.sources.unit_at.Statement.{statement}
 use Rattle.report.proofs.sources.unit_at.Tie as tie
-use Rattle.report.proofs.sources.unit_at.Reads as reads
-use Rattle.report.proofs.sources.unit_at.Lts as lts
-use Rattle.sender.proofs.unit_of.Reads as unit-of-reads
 
 mul-row : tie.Need-mul-row
 mul-row c = search needs
