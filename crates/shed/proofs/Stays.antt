@@ -15,7 +15,7 @@ use Rattle.sender.specs.declared.Words.{Words}
 use Rattle.sender.specs.Sender.{words-of, name-of, is-overflow}
 use Rattle.store.specs.Store as store
 use Rattle.store.specs.Store.{Rows, Sources, sources, find, counted-find, counted-up, counted-add, totals, keep-from, prune}
-use Rattle.store.proofs.Frees.{frees}
+use Rattle.store.proofs.Pruning.{frees}
 use Rattle.head.specs.declared.Shedder.{Shedder}
 use Rattle.head.specs.declared.Cause.{Cause}
 use Rattle.head.specs.Numbers.{choose}
@@ -104,7 +104,7 @@ unfolding store.pruned
 pruned-held s c p e q =
     sources-all (ltb (s .count) (length (s .rows))) s _ (λ (t : Sources). t .count < c)
     (λ y. omega (arith, ltb-true (s .count) (length (s .rows)) y, e))
-    (λ y. let long : length (s .rows) ≤ s .count = ltb-false (s .count) (length (s .rows)) y in omega (arith, frees (s .rows) (s .count) (omega (arith, long, e, q)), p))
+    (λ y. let long : length (s .rows) ≤ s .count = ltb-false (s .count) (length (s .rows)) y in omega (arith, frees (s .rows) (s .count) (omega (arith, long, e, q)) (omega (arith, p, e)), p))
 
 tallied-whole : (h : Shedder) (k : List (List ℕ)) (w : Words) (cause receptions : ℕ) → Whole h → length k ≡ h .«counted_room» → Whole (tallied (tally h k) w cause receptions .head)
 unfolding tallied added

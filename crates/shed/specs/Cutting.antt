@@ -31,12 +31,15 @@ use Rattle.shed.specs.Counting.{Tally, tally, tallied}
 unfoldable pub hands-back : List ℕ → Cause → Bool
 hands-back rate c = cond (is-unbounded rate) false (eqb (index-of c) 0)
 
+-- what was admitted, less this cost, down to 0
 unfoldable pub lowered : List Float → List Float → List Float
 lowered xs cost = upto (λ (d : ℕ). most (Ieee.sub binary64 (at xs d) (at cost d)) nothing) dims zeros
 
+-- tokens go back up to the burst; the clock stays
 unfoldable pub flowed-back : Flow → List Float → Flow
 flowed-back f cost = record { rate = f .rate; ceiling = f .ceiling; buckets = flow.returned-all (f .buckets) cost; «at_ms» = f .«at_ms»; admitted = lowered (f .admitted) cost }
 
+-- the head and the unit records
 pub record KeptBy : Type 0 where
   pub head : Shedder
   pub rows : Rows
@@ -51,9 +54,11 @@ abbrev pub handed-at : Shedder → List Float → Entered → KeptBy
 handed-at h cost e =
     handed-with h cost e (put-back (e .rows .units) (e .rows .uses) (h .overflow) (e .place .at) (flow.handed-back (used-at (e .rows .units) (e .rows .uses) (h .overflow) (e .place .at)) cost))
 
+-- all of a batch is handed back: tokens, attempted and credit of the record that the cut uses, a new one stamped with the clock
 unfoldable pub handed-back : KeptBy → unit.Unit → List Float → KeptBy
 handed-back s u cost = handed-at (s .head) cost (entry (s .rows) (s .head .tracked) (s .head .«unit_room») u (s .head .flow .«at_ms»))
 
+-- an answer, the head, the unit records and the counted records
 pub record Cut : Type 0 where
   pub answer : Done
   pub head : Shedder
@@ -66,7 +71,7 @@ cutting c m k = record { answer = c .answer; head = c .head; rows = m; counted =
 abbrev pub cut-ends : Done → Shedder → Rows → List (List ℕ) → Cut
 cut-ends a h m k = record { answer = a; head = h; rows = m; counted = k }
 
--- the cut counted
+-- an answer, the head and the counted records
 pub record Noted : Type 0 where
   pub answer : Done
   pub head : Shedder
@@ -78,6 +83,7 @@ noting c k = record { answer = c .answer; head = c .head; counted = k }
 abbrev pub noted-as : Tally → Noted
 noted-as t = record { answer = done.Counted; head = t .head; counted = t .counted }
 
+-- the cut counted, under the unit named
 unfoldable pub noted : Tally → Words → Cause → List ℕ → Noted
 noted t w c cost = noted-as (tallied t w (index-of c) (getD cost 0 0))
 

@@ -41,12 +41,15 @@ rank-at hash i room = cond (ltb i room) (sender.rank-of-hash hash) (sender.rank 
 unfoldable pub outcome : Flow → List Float → Use → Float → List Float → ℕ → Outcome
 outcome f level u rank cost now = flow.judged (f .buckets) u now (now - f .«at_ms») cost (flow.fills level (flow.numbers (f .rate))) level rank
 
+-- only an admission adds to it
 unfoldable pub admitted-then : Verdict → List Float → List Float → List Float
 admitted-then v admitted cost = choose (is-admitted v) (raised admitted cost) admitted
 
+-- the flow after a judgement: clock and buckets have moved, also where the batch is cut
 unfoldable pub flowed : Flow → Outcome → List Float → ℕ → Flow
 flowed f o cost now = record { rate = f .rate; ceiling = f .ceiling; buckets = o .buckets; «at_ms» = now; admitted = admitted-then (o .verdict) (f .admitted) cost }
 
+-- a verdict, the head and the rows
 pub record Through : Type 0 where
   pub verdict : Verdict
   pub head : Shedder
@@ -63,6 +66,7 @@ passing h now cost e o b = record {
   rows = rows (e .rows .hashes) (b .units) (b .uses);
 }
 
+-- the outcome at an entered place
 abbrev pub outcome-at : Shedder → unit.Unit → List Float → ℕ → Entered → Outcome
 outcome-at h u cost now e =
     outcome (h .flow) (h .level) (used-at (e .rows .units) (e .rows .uses) (h .overflow) (e .place .at)) (rank-at (sender.hash-of u) (e .place .at) (h .«unit_room»)) cost now
@@ -71,9 +75,11 @@ abbrev pub judged-at : Shedder → unit.Unit → List Float → ℕ → Entered 
 judged-at h u cost now e =
     passing h now cost e (outcome-at h u cost now e) (put-back (e .rows .units) (e .rows .uses) (h .overflow) (e .place .at) (outcome-at h u cost now e .used))
 
+-- a judgement on the record that is found, added or overflow's
 unfoldable pub judged : Shedder → Rows → unit.Unit → List Float → ℕ → Through
 judged h m u cost now = judged-at h u cost now (entry m (h .tracked) (h .«unit_room») u now)
 
+-- the lent memory: the unit records, the histogram, the counted records
 pub record Memory : Type 0 where
   pub rows : Rows
   pub hist : Hist
@@ -94,24 +100,29 @@ judgement j m = record { answer = j .answer; head = j .head; memory = m }
 abbrev pub judge-ends : Answer → Shedder → Memory → Judged
 judge-ends a h m = record { answer = a; head = h; memory = m }
 
+-- a verdict as an answer
 unfoldable pub answer-of : Verdict → Answer
 answer-of verdict.Admitted = answer.Admitted
 answer-of verdict.OverShare = answer.OverShare
 answer-of verdict.RelayRate = answer.RelayRate
 
+-- the answer, once the scan was made
 abbrev pub bounded-scanned : Answer → List (List ℕ) → Scanning → Judged
 bounded-scanned a counted s = judge-ends a (s .head) (memory (s .rows) (s .hist) counted)
 
+-- the scan, once the cut was counted
 abbrev pub bounded-told : Hist → ℕ → Through → Tally → Judged
 bounded-told g clock p t = bounded-scanned (answer-of (p .verdict)) (t .counted) (scanned (scanning (t .head) (p .rows) g) clock)
 
+-- the count, under the unit named, once the verdict is there
 abbrev pub bounded-passed : Memory → unit.Unit → List ℕ → ℕ → Through → Judged
 bounded-passed m u cost clock p = bounded-told (m .hist) clock p (told (tally (p .head) (m .counted)) (sender.words-of u) (p .verdict) cost)
 
+-- a judgement of a bounded relay: the clock is the later of stamp and clock; verdict, count and scan follow
 unfoldable pub bounded : Shedder → Memory → unit.Unit → List ℕ → ℕ → Judged
 bounded h m u cost stamp = bounded-passed m u cost (max stamp (h .flow .«at_ms»)) (judged h (m .rows) u (flow.numbers cost) (max stamp (h .flow .«at_ms»)))
 
--- THE JUDGEMENT: the first question answered no gives its number and nothing changes; an unbounded relay admits and nothing changes
+-- THE JUDGEMENT: the first question answered no gives its number and nothing changes; an unbounded relay admits, nothing changes, and 9 is not asked, since no record is sought
 unfoldable pub judge : Shedder → Memory → unit.Unit → List ℕ → ℕ → Judged
 judge h m u cost stamp =
     choose (eqb (judge-asked h (length (m .rows .hashes)) (length (m .rows .units)) (length (m .rows .uses)) (length (m .counted)) cost stamp) 0)

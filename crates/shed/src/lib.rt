@@ -29,17 +29,20 @@ use sender::Words;
 // the counts of cuts
 mod tally;
 
+// What a judgement answers, and the head after it.
 pub struct Judgement {
     pub answer: Answer,
     pub head: Shedder,
 }
 
+// The later of two stamps.
 fn later(a: u64, b: u64) -> u64
     ensures { λ r. ⌜ r ≡ max a b ⌝ }
 {
     if a < b { b } else { a }
 }
 
+// What was admitted so far, and this cost.
 fn raised(xs: [f64; DIMS], cost: [f64; DIMS]) -> [f64; DIMS]
     ensures { λ r. ⌜ r ≡ judging.raised xs cost ⌝ }
 {
@@ -74,6 +77,7 @@ pub struct Place {
     pub tracked: usize,
 }
 
+// The unit's record; a new one, stamped with the clock, where there is room; else overflow's. The search was made, and gave i.
 fn entry(
     hashes: &mut [u64],
     units: &mut [[u64; 7]],
@@ -110,6 +114,7 @@ fn entry(
     Place { at: room, tracked }
 }
 
+// The use at a place: a record's, or overflow's.
 fn used_at(units: &[[u64; 7]], uses: &[[f64; 2 * DIMS]], overflow: Use, at: usize) -> Use
     requires { ⌜ length (now units) ≡ length (now uses) ⌝ }
     ensures { λ r. ⌜ r ≡ entering.used-at (now (units .entry)) (now (uses .entry)) overflow at ⌝ }
@@ -151,6 +156,7 @@ fn rank_at(hash: u64, at: usize, room: usize) -> f64
     }
 }
 
+// The verdict on a use, with the level as it stands before this call's scan.
 fn outcome(
     f: Flow,
     level: [f64; DIMS],
@@ -177,6 +183,7 @@ fn outcome(
     )
 }
 
+// Only an admission adds to what was admitted.
 fn admitted_then(verdict: Verdict, admitted: [f64; DIMS], cost: [f64; DIMS]) -> [f64; DIMS]
     ensures { λ r. ⌜ r ≡ judging.admitted-then verdict admitted cost ⌝ }
 {
@@ -187,6 +194,7 @@ fn admitted_then(verdict: Verdict, admitted: [f64; DIMS], cost: [f64; DIMS]) -> 
     }
 }
 
+// Clock and buckets move also where the batch is cut.
 fn flowed(f: Flow, o: Outcome, cost: [f64; DIMS], now: u64) -> Flow
     ensures { λ r. ⌜ r ≡ judging.flowed f o cost now ⌝ }
 {
@@ -205,11 +213,13 @@ fn flowed(f: Flow, o: Outcome, cost: [f64; DIMS], now: u64) -> Flow
     }
 }
 
+// A verdict, and the head after it.
 pub struct Passed {
     pub verdict: Verdict,
     pub head: Shedder,
 }
 
+// A judgement on the record that is found, added or overflow's.
 fn judged(
     head: Shedder,
     hashes: &mut [u64],
@@ -262,6 +272,7 @@ fn judged(
     Passed { verdict, head: h }
 }
 
+// A verdict as an answer.
 fn answer_of(verdict: Verdict) -> Answer
     ensures { λ r. ⌜ r ≡ judging.answer-of verdict ⌝ }
     ensures { λ r. ⌜ answers.judge-number r ≡ 0 ⌝ }
@@ -273,6 +284,7 @@ fn answer_of(verdict: Verdict) -> Answer
     }
 }
 
+// A judgement of a bounded relay, once the questions are answered yes: verdict, count, scan.
 fn bounded(
     head: Shedder,
     hashes: &mut [u64],
@@ -315,6 +327,7 @@ fn bounded(
     Judgement { answer, head: s }
 }
 
+// Whether a unit's batch of this cost, stamped so, is admitted. A cut is counted. A refusal changes nothing.
 pub fn judge(
     head: Shedder,
     hashes: &mut [u64],
@@ -377,11 +390,13 @@ pub fn judge(
     )
 }
 
+// What a cut answers, and the head after it.
 pub struct Cutting {
     pub answer: Done,
     pub head: Shedder,
 }
 
+// A bounded relay hands back a cut for the receiver's ceiling.
 fn hands_back(rate: [u64; DIMS], cause: Cause) -> bool
     ensures { λ r. ⌜ r ≡ cutting.hands-back rate cause ⌝ }
 {
@@ -391,6 +406,7 @@ fn hands_back(rate: [u64; DIMS], cause: Cause) -> bool
     head::index_of(cause) == 0
 }
 
+// What was admitted, less this cost, down to 0.
 fn lowered(xs: [f64; DIMS], cost: [f64; DIMS]) -> [f64; DIMS]
     ensures { λ r. ⌜ r ≡ cutting.lowered xs cost ⌝ }
 {
@@ -403,6 +419,7 @@ fn lowered(xs: [f64; DIMS], cost: [f64; DIMS]) -> [f64; DIMS]
     out
 }
 
+// Tokens go back up to the burst; the clock stays.
 fn flowed_back(f: Flow, cost: [f64; DIMS]) -> Flow
     ensures { λ r. ⌜ r ≡ cutting.flowed-back f cost ⌝ }
 {
@@ -486,6 +503,7 @@ fn noted(
     }
 }
 
+// A cut made elsewhere, counted with the rest; for the receiver's ceiling all of the batch is given back. A refusal changes nothing.
 pub fn cut(
     head: Shedder,
     hashes: &mut [u64],

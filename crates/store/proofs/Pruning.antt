@@ -148,7 +148,7 @@ prune-next rows k n h =
     ∙ ap (λ (x : List (List ℕ)). prune-one (left a n x) k n) (sym (drop-cons rows n [] h))
 
 -- ---- at least one source goes: k is one of the totals
-frees : (rows : List (List ℕ)) (n : ℕ) → 0 < n → n ≤ length rows → prune rows (keep-from (totals rows n)) n .count < n
+pub frees : (rows : List (List ℕ)) (n : ℕ) → 0 < n → n ≤ length rows → prune rows (keep-from (totals rows n)) n .count < n
 unfolding prune totals
 frees rows n h g =
     let l : length (map total (take n rows)) ≡ n = length-map (take n rows) total ∙ length-take-le n rows g in

@@ -1,0 +1,131 @@
+-- The lent rows as the model's: the live records as a list of rows, in order of arrival, each under its name. Definitions, and what they amount to. Assumes nothing.
+use mathlib.Core.Path.{_≡_, refl, sym, ap, _∙_, subst}
+use Prim.Native.Nat.{ℕ, zero, suc, _+_, _-_, _≤_, _<_}
+use native.Mathlib.Numerals.{add-one}
+use native.Mathlib.Omega.{arith}
+use mathlib.Core.Bool.{Bool, true, false, cond, true≢false}
+use mathlib.Core.List.{List, [], _∷_, _++_}
+use lib.Dec.{T, eqb, ltb}
+use lib.ListN.{length, getD, length-append}
+use borrow.Author.Tests.{eqb-true, eq-eqb}
+use Rattle.flow.specs.declared.Use.{Use}
+use Rattle.sender.specs.declared.Words.{Words}
+use Rattle.sender.specs.declared.Name as sender-name
+use Rattle.sender.specs.Sender as sender
+use Rattle.sender.specs.declared.Unit as unit
+use Rattle.store.specs.Store as store
+use Rattle.store.specs.Store.{Rows}
+use Rattle.fair.specs.Store as model
+use Rattle.fair.specs.Calls.{same-name}
+
+-- ---- names
+-- a unit's hash and words, and whether it is overflow, which goes to overflow's record at once
+pub record Name : Type 0 where
+  pub overflow : Bool
+  pub name : sender-name.Name
+
+abbrev pub alike : Bool → Bool → Bool
+alike true b = b
+alike false true = false
+alike false false = true
+
+abbrev pub same : Name → Name → Bool
+same u v = cond (alike (u .overflow) (v .overflow)) (same-name (u .name) (v .name)) false
+
+abbrev pub shares : Name → Bool
+shares u = u .overflow
+
+abbrev pub name-of : unit.Unit → Name
+name-of u = record { overflow = sender.is-overflow u; name = sender.name-of u }
+
+abbrev pub named : sender-name.Name → Name
+named w = record { overflow = false; name = w }
+
+alike-of : (a b : Bool) → alike a b ≡ true → a ≡ b
+alike-of true b e = sym e
+alike-of false true e = absurd (true≢false (sym e))
+alike-of false false e = refl
+
+alike-self : (a : Bool) → alike a a ≡ true
+alike-self true = refl
+alike-self false = refl
+
+both : (a x : Bool) → cond a x false ≡ true → (a ≡ true) × (x ≡ true)
+both true x e = (refl, e)
+both false x e = absurd (true≢false (sym e))
+
+true-of : (b : Bool) → T b → b ≡ true
+true-of true t = refl
+true-of false t = absurd t
+
+words-ext : (a b c d e a' b' c' d' e' : ℕ) → a ≡ a' → b ≡ b' → c ≡ c' → d ≡ d' → e ≡ e' → _≡_ {A = Words} (record { kind = a; a = b; b = c; c = d; d = e }) (record { kind = a'; a = b'; b = c'; c = d'; d = e' })
+words-ext a b c d e a' b' c' d' e' p q r s t = cc
+
+pair-ext : (a a' : ℕ) (w w' : Words) → a ≡ a' → w ≡ w' → _≡_ {A = sender-name.Name} (record { hash = a; words = w }) (record { hash = a'; words = w' })
+pair-ext a a' w w' p q = cc
+
+name-ext : (a a' : Bool) (w w' : sender-name.Name) → a ≡ a' → w ≡ w' → _≡_ {A = Name} (record { overflow = a; name = w }) (record { overflow = a'; name = w' })
+name-ext a a' w w' p q = cc
+
+words-same : (v w : Words) → store.same v w ≡ true → v ≡ w
+unfolding store.same
+words-same v w e =
+    let a = both (eqb (v .kind) (w .kind)) _ e in
+    let b = both (eqb (v .a) (w .a)) _ (a .1) in
+    let c = both (eqb (v .b) (w .b)) _ (b .1) in
+    let d = both (eqb (v .c) (w .c)) _ (c .1) in
+    words-ext (v .kind) (v .a) (v .b) (v .c) (v .d) (w .kind) (w .a) (w .b) (w .c) (w .d) (eqb-true (v .kind) (w .kind) (a .0)) (eqb-true (v .a) (w .a) (b .0)) (eqb-true (v .b) (w .b) (c .0)) (eqb-true (v .c) (w .c) (d .0)) (eqb-true (v .d) (w .d) (d .1))
+
+words-self : (v : Words) → store.same v v ≡ true
+unfolding store.same
+words-self v = simp (eq-eqb (v .kind) (v .kind) refl, eq-eqb (v .a) (v .a) refl, eq-eqb (v .b) (v .b) refl, eq-eqb (v .c) (v .c) refl, eq-eqb (v .d) (v .d) refl)
+
+pair-same : (v w : sender-name.Name) → same-name v w ≡ true → v ≡ w
+pair-same v w e =
+    let a = both (eqb (w .hash) (v .hash)) _ e in
+    pair-ext (v .hash) (w .hash) (v .words) (w .words) (sym (eqb-true (w .hash) (v .hash) (a .0))) (sym (words-same (w .words) (v .words) (a .1)))
+
+pair-self : (v : sender-name.Name) → same-name v v ≡ true
+pair-self v = simp (eq-eqb (v .hash) (v .hash) refl, words-self (v .words))
+
+pub same-is : (u v : Name) → T (same u v) → u ≡ v
+same-is u v t =
+    let a = both (alike (u .overflow) (v .overflow)) _ (true-of (same u v) t) in
+    name-ext (u .overflow) (v .overflow) (u .name) (v .name) (alike-of (u .overflow) (v .overflow) (a .0)) (pair-same (u .name) (v .name) (a .1))
+
+pub same-self : (u : Name) → T (same u u)
+same-self u = subst T (sym (ap (λ (b : Bool). cond b (same-name (u .name) (u .name)) false) (alike-self (u .overflow)) ∙ pair-self (u .name))) tt
+
+-- the words of a row of the store
+abbrev pub name-at : List ℕ → List (List ℕ) → ℕ → sender-name.Name
+name-at hashes units i = record { hash = getD hashes i 0; words = store.words-at units i }
+
+-- ---- rows
+module _ (room : ℕ) where
+  abbrev pub R : Type 0
+  R = model.Row Name same shares room
+
+  abbrev pub choose : {A : Type 0} → Bool → A → A → A
+  choose b x y = model.choose Name same shares room b x y
+
+  abbrev pub sweep : (R → Bool) → List R → List R
+  sweep p rs = model.sweep Name same shares room p rs
+
+  abbrev pub row : sender-name.Name → Use → R
+  row w u = record { name = named w; used = u }
+
+  unfoldable pub record-at : Rows → ℕ → R
+  record-at m i = row (name-at (m .hashes) (m .units) i) (store.use-at (m .units) (m .uses) i)
+
+  unfoldable pub listed : Rows → ℕ → List R
+  listed m zero = []
+  listed m (suc n) = listed m n ++ (record-at m n ∷ [])
+
+  -- of the table that the scan comes by, and more than 8 s old
+  abbrev pub stale : ℕ → ℕ → R → Bool
+  stale table at r = cond (eqb (sender.table-of-hash (r .name .name .hash)) table) (ltb 8000 (at - r .used .«at_ms»)) false
+
+  pub listed-length : (m : Rows) (n : ℕ) → length (listed m n) ≡ n
+  unfolding listed
+  listed-length m zero = refl
+  listed-length m (suc n) = length-append (listed m n) (record-at m n ∷ []) ∙ ap (λ (k : ℕ). k + 1) (listed-length m n) ∙ add-one n

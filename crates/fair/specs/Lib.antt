@@ -1,0 +1,7 @@
+pub mod Runs
+pub mod Tokens
+pub mod Credit
+pub mod Demand
+pub mod Store
+pub mod Given
+pub mod Calls

@@ -1,0 +1,70 @@
+-- `cut` meets its contract.
+use mathlib.Core.Path.{_≡_, refl, sym, ap, _∙_}
+use denote.Ref.{now}
+use borrow.Author.Tests.{not-true, not-false}
+use Rattle.store.specs.Store.{rows}
+use Rattle.wants.specs.Wants.{Hist, hist}
+use Rattle.shed.specs.Judging.{Memory, memory}
+use Rattle.trial.specs.Trial.{state}
+use Rattle.trial.proofs.Steps.{cut-refused, cut-step}
+use borrow.Author.Needs.{needs}
+use Rattle.trial.proofs.cut.Statement.{statement}
+use Rattle.trial.proofs.cut.Tie as tie
+
+refused-requires : tie.Need-refused-requires
+refused-requires c κs = search needs
+
+same-length : tie.Need-same-length
+same-length c = search needs
+
+returns : tie.Need-returns
+returns c =
+    let a = c .before .before .before .before .before .before .before .before .args in
+    λ g. cut-refused (state (a .t) (memory (rows (now (a .hashes)) (now (a .units)) (now (a .uses))) g (now (a .counted))) (now (a .out))) (a .l) _ (not-true (a .t .«is_started») (c .before .before .before .before .if1 .taken)) (c .before .before .refused .ensures (memory (rows (now (a .hashes)) (now (a .units)) (now (a .uses))) g (now (a .counted))))
+
+of-dims-requires : tie.Need-of-dims-requires
+of-dims-requires c κs = search needs
+
+cut-requires : tie.Need-cut-requires
+cut-requires c κs = search needs
+
+put-done-requires : tie.Need-put-done-requires
+put-done-requires c κs = search needs
+
+same-length-2 : tie.Need-same-length-2
+same-length-2 c = search needs
+
+same-length-3 : tie.Need-same-length-3
+same-length-3 c = search needs
+
+same-length-4 : tie.Need-same-length-4
+same-length-4 c = search needs
+
+same-length-5 : tie.Need-same-length-5
+same-length-5 c = search needs
+
+same-length-6 : tie.Need-same-length-6
+same-length-6 c = search needs
+
+returns-2 : tie.Need-returns-2
+returns-2 c =
+    let a = c .before .before .before .before .before .before .before .before .before .before .before .before .before .before .before .before .before .before .before .before .before .args in
+    λ g. cut-step (state (a .t) (memory (rows (now (a .hashes)) (now (a .units)) (now (a .uses))) g (now (a .counted))) (now (a .out))) (a .l) (c .before .before .before .before .before .before .before .before .before .before .cut .result) _ _ _ _ (not-false (a .t .«is_started») (c .before .before .before .before .before .before .before .before .before .before .before .before .before .before .before .before .before .if1 .left)) (c .before .before .before .before .before .before .before .before .before .before .before .of-dims .ensures)
+    (c .before .before .before .before .before .before .before .before .before .before .cut .ensures .0) (c .before .before .put-done .ensures)
+
+pub cut-spec : {M : Type 1} → statement M
+cut-spec =
+    tie.close
+    (tie.spec
+    refused-requires
+    same-length
+    returns
+    of-dims-requires
+    cut-requires
+    put-done-requires
+    same-length-2
+    same-length-3
+    same-length-4
+    same-length-5
+    same-length-6
+    returns-2)

@@ -1,0 +1,47 @@
+-- `start` meets its contract.
+use mathlib.Core.Path.{_≡_, refl, sym, ap, _∙_}
+use denote.Ref.{now}
+use Rattle.store.specs.Store.{rows}
+use Rattle.wants.specs.Wants.{Hist, hist}
+use Rattle.shed.specs.Judging.{Memory, memory}
+use Rattle.trial.specs.Trial.{state}
+use Rattle.trial.proofs.Steps.{start-step}
+use borrow.Author.Needs.{needs}
+use Rattle.trial.proofs.start.Statement.{statement}
+use Rattle.trial.proofs.start.Tie as tie
+
+of-dims-requires : tie.Need-of-dims-requires
+of-dims-requires c κs = search needs
+
+of-dims-requires-2 : tie.Need-of-dims-requires-2
+of-dims-requires-2 c κs = search needs
+
+start-requires : tie.Need-start-requires
+start-requires c κs = search needs
+
+put-begin-requires : tie.Need-put-begin-requires
+put-begin-requires c κs = search needs
+
+has-begun-requires : tie.Need-has-begun-requires
+has-begun-requires c κs = search needs
+
+same-length : tie.Need-same-length
+same-length c = search needs
+
+returns : tie.Need-returns
+returns c =
+    let a = c .before .before .before .before .before .before .before .before .before .before .before .before .before .before .args in
+    start-step (state (a .t) (memory (rows (now (a .hashes)) (now (a .units)) (now (a .uses))) (hist (now (a .counts)) (now (a .sums))) (now (a .counted))) (now (a .out))) (a .l) (c .before .before .before .before .before .before .start .result) _ _ _ _ _ (c .before .before .before .before .before .before .before .before .of-dims .ensures) (c .before .before .before .before .before .before .before .of-dims2 .ensures) (c .before .before .before .before .before .before .start .ensures .0)
+    (c .before .before .before .put-begin .ensures) (c .has-begun .ensures)
+
+pub start-spec : {M : Type 1} → statement M
+start-spec =
+    tie.close
+    (tie.spec
+    of-dims-requires
+    of-dims-requires-2
+    start-requires
+    put-begin-requires
+    has-begun-requires
+    same-length
+    returns)

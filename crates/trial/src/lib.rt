@@ -1,0 +1,277 @@
+// The trial: one line answered by the shedder, over the memory that it is lent, and the text of the answer put into a page.
+ghost use mathlib.Core.Path.{_≡_};
+ghost use mathlib.Core.Bool.{true, false};
+ghost use Rattle.store.specs.Store.{rows};
+ghost use Rattle.wants.specs.Wants.{Hist, hist};
+ghost use Rattle.shed.specs.Judging.{Memory, memory};
+ghost use Rattle.trial.specs.Trial as trial;
+use flow::Bucket;
+use flow::DIMS;
+use flow::Use;
+use head::Begin;
+use head::CAUSES;
+use head::Flow;
+use head::Scan;
+use head::Shedder;
+use script::Amounts;
+use script::CutLine;
+use script::JudgeLine;
+use script::LINE_MOST;
+use script::Line;
+use script::StartLine;
+
+// The trial's sizes: unit records, counted records, the report's buffer.
+pub const UNITS: usize = 256;
+
+pub const COUNTED: usize = 65;
+
+pub const REPORT: usize = 4096;
+
+// The number of a line that has no form, or stands before any start that was taken.
+const NO_FORM: u64 = 8;
+
+// The shedder and whether it was started; `at` is the place behind the last answer.
+pub struct Trial {
+    pub head: Shedder,
+    pub is_started: bool,
+    pub at: usize,
+}
+
+fn of_dims(a: Amounts) -> [u64; DIMS]
+    ensures { λ r. ⌜ r ≡ trial.of-dims a ⌝ }
+{
+    [a.receptions, a.bytes]
+}
+
+// Whether a shedder is there after a start: the new one, or the one that was.
+fn has_begun(was: bool, answer: Begin) -> bool
+    ensures { λ r. ⌜ r ≡ trial.has-begun was answer ⌝ }
+{
+    match answer {
+        Begin::Started => true,
+        Begin::Refused(_) => was,
+    }
+}
+
+// No shedder yet: a head of zeros, which is not whole.
+pub fn unstarted() -> Trial
+    ensures { λ r. ⌜ (r .«is_started» ≡ false) × (r .at ≡ 0) ⌝ }
+{
+    let none = [0u64; DIMS];
+    let nothing = [0.0; DIMS];
+    let bucket = Bucket {
+        tokens: 0.0,
+        burst: 0.0,
+        rate_per_ms: 0.0,
+    };
+    let buckets = [bucket; DIMS];
+    let flow = Flow {
+        rate: none,
+        ceiling: none,
+        buckets,
+        at_ms: 0,
+        admitted: nothing,
+    };
+    let scan = Scan {
+        remaining: 0,
+        next: 0,
+        at_ms: 0,
+        began_ms: 0,
+        trim: nothing,
+        open: nothing,
+        read_ms: 0,
+        read_admitted: nothing,
+    };
+    let overflow = Use::new(0);
+    let counts = [0u64; CAUSES];
+    let head = Shedder {
+        flow,
+        overflow,
+        scan,
+        visits: 0,
+        level: nothing,
+        batches: counts,
+        receptions: counts,
+        tracked: 0,
+        counted: 0,
+        unit_room: 0,
+        counted_room: 0,
+    };
+    Trial {
+        head,
+        is_started: false,
+        at: 0,
+    }
+}
+
+fn refused(mut t: Trial, out: &mut [u8], n: u64) -> Trial
+    ensures { λ r. ⌜ ((m : Memory) → trial.state r m (now (out .exit)) ≡ trial.refused (trial.state t m (now (out .entry))) n) ⌝ }
+{
+    let at = t.at;
+    t.at = script::put_refused(out, at, n);
+    t
+}
+
+fn start(
+    t: Trial,
+    hashes: &[u64],
+    units: &[[u64; 7]],
+    uses: &[[f64; 2 * DIMS]],
+    counts: &mut [[u32; 768]; DIMS],
+    sums: &mut [[f64; 768]; DIMS],
+    counted: &[[u64; 8]],
+    l: StartLine,
+    out: &mut [u8],
+) -> Trial
+    ensures { λ r. ⌜ trial.state r (memory (rows (now (hashes .entry)) (now (units .entry)) (now (uses .entry))) (hist (now (counts .exit)) (now (sums .exit))) (now (counted .entry))) (now (out .exit)) ≡ trial.start (trial.state t (memory (rows (now (hashes .entry)) (now (units .entry)) (now (uses .entry))) (hist (now (counts .entry)) (now (sums .entry))) (now (counted .entry))) (now (out .entry))) l ⌝ }
+{
+    let was = t.head;
+    let s = head::start(
+        was,
+        hashes,
+        units,
+        uses,
+        counts,
+        sums,
+        counted,
+        of_dims(l.rate),
+        of_dims(l.ceiling),
+    );
+    let answer = s.answer;
+    let head = s.head;
+    let at = script::put_begin(out, t.at, answer);
+    Trial {
+        head,
+        is_started: has_begun(t.is_started, answer),
+        at,
+    }
+}
+
+fn judge(
+    t: Trial,
+    hashes: &mut [u64],
+    units: &mut [[u64; 7]],
+    uses: &mut [[f64; 2 * DIMS]],
+    counts: &mut [[u32; 768]; DIMS],
+    sums: &mut [[f64; 768]; DIMS],
+    counted: &mut [[u64; 8]],
+    l: JudgeLine,
+    out: &mut [u8],
+) -> Trial
+    ensures { λ r. ⌜ trial.state r (memory (rows (now (hashes .exit)) (now (units .exit)) (now (uses .exit))) (hist (now (counts .exit)) (now (sums .exit))) (now (counted .exit))) (now (out .exit)) ≡ trial.judge (trial.state t (memory (rows (now (hashes .entry)) (now (units .entry)) (now (uses .entry))) (hist (now (counts .entry)) (now (sums .entry))) (now (counted .entry))) (now (out .entry))) l ⌝ }
+{
+    if !t.is_started {
+        return refused(t, out, NO_FORM);
+    }
+    let was = t.head;
+    let unit = l.unit;
+    let j = shed::judge(
+        was,
+        hashes,
+        units,
+        uses,
+        counts,
+        sums,
+        counted,
+        unit,
+        of_dims(l.cost),
+        l.stamp,
+    );
+    let answer = j.answer;
+    let head = j.head;
+    let at = script::put_answer(out, t.at, answer);
+    Trial {
+        head,
+        is_started: true,
+        at,
+    }
+}
+
+fn cut(
+    t: Trial,
+    hashes: &mut [u64],
+    units: &mut [[u64; 7]],
+    uses: &mut [[f64; 2 * DIMS]],
+    counted: &mut [[u64; 8]],
+    l: CutLine,
+    out: &mut [u8],
+) -> Trial
+    ensures { λ r. ⌜ ((g : Hist) → trial.state r (memory (rows (now (hashes .exit)) (now (units .exit)) (now (uses .exit))) g (now (counted .exit))) (now (out .exit)) ≡ trial.cut (trial.state t (memory (rows (now (hashes .entry)) (now (units .entry)) (now (uses .entry))) g (now (counted .entry))) (now (out .entry))) l) ⌝ }
+{
+    if !t.is_started {
+        return refused(t, out, NO_FORM);
+    }
+    let was = t.head;
+    let unit = l.unit;
+    let cause = l.cause;
+    let c = shed::cut(
+        was,
+        hashes,
+        units,
+        uses,
+        counted,
+        unit,
+        cause,
+        of_dims(l.cost),
+    );
+    let answer = c.answer;
+    let head = c.head;
+    let at = script::put_done(out, t.at, answer);
+    Trial {
+        head,
+        is_started: true,
+        at,
+    }
+}
+
+fn report(
+    mut t: Trial,
+    hashes: &[u64],
+    units: &[[u64; 7]],
+    uses: &[[f64; 2 * DIMS]],
+    counted: &[[u64; 8]],
+    out: &mut [u8],
+) -> Trial
+    ensures { λ r. ⌜ ((g : Hist) → trial.state r (memory (rows (now (hashes .entry)) (now (units .entry)) (now (uses .entry))) g (now (counted .entry))) (now (out .exit)) ≡ trial.report (trial.state t (memory (rows (now (hashes .entry)) (now (units .entry)) (now (uses .entry))) g (now (counted .entry))) (now (out .entry)))) ⌝ }
+{
+    if !t.is_started {
+        return refused(t, out, NO_FORM);
+    }
+    let head = t.head;
+    let at = t.at;
+    let mut own = [0u8; REPORT];
+    let no = report::report_refusal(head, hashes, units, uses, counted, &own);
+    if no != 0 {
+        return refused(t, out, no);
+    }
+    let front = report::report(head, hashes, units, uses, counted, &mut own);
+    t.at = text::put(out, at, front);
+    t
+}
+
+// Answers one line: the text goes to out from the place t.at on.
+pub fn answer(
+    t: Trial,
+    hashes: &mut [u64],
+    units: &mut [[u64; 7]],
+    uses: &mut [[f64; 2 * DIMS]],
+    counts: &mut [[u32; 768]; DIMS],
+    sums: &mut [[f64; 768]; DIMS],
+    counted: &mut [[u64; 8]],
+    line: &[u8],
+    out: &mut [u8],
+) -> Trial
+    ensures { λ r. ⌜ trial.state r (memory (rows (now (hashes .exit)) (now (units .exit)) (now (uses .exit))) (hist (now (counts .exit)) (now (sums .exit))) (now (counted .exit))) (now (out .exit)) ≡ trial.answer (trial.state t (memory (rows (now (hashes .entry)) (now (units .entry)) (now (uses .entry))) (hist (now (counts .entry)) (now (sums .entry))) (now (counted .entry))) (now (out .entry))) (now (line .entry)) ⌝ }
+{
+    if line.len() > LINE_MOST {
+        return refused(t, out, NO_FORM);
+    }
+    let l = script::read_line(line);
+    match l {
+        Line::Start(s) => start(t, hashes, units, uses, counts, sums, counted, s, out),
+        Line::Judge(j) => judge(t, hashes, units, uses, counts, sums, counted, j, out),
+        Line::Cut(c) => cut(t, hashes, units, uses, counted, c, out),
+        Line::Report => report(t, hashes, units, uses, counted, out),
+        Line::Nothing => refused(t, out, NO_FORM),
+    }
+}
