@@ -24,6 +24,7 @@ use Rattle.head.specs.declared.Cause.{Cause}
 use Rattle.head.specs.declared.Cause.the-variants as cause
 use Rattle.head.specs.declared.Dim.{Dim}
 use Rattle.head.specs.declared.Begin.the-variants as begin
+use Rattle.report.specs.Report.{report-asked}
 use Rattle.fair.specs.Given as shed
 use Rattle.fair.specs.Given.{Memory, memory}
 use Rattle.fair.specs.Runs.{sum, highest, lowest, Since, clock, back}
@@ -32,9 +33,9 @@ use Rattle.fair.specs.Tokens.{burst}
 -- ---- calls
 -- "The list holds every call on one shedder's head and memory: judgements, cuts, reports and the call beside them, readings of a count, level or rate"
 pub data Reading : Type 0 where
-  -- a report, and the call beside it: whether the whole text fits the buffer, "the report's buffer may hold anything"
-  Report : Bool → Reading
-  ReportBeside : Bool → Reading
+  -- a report into a buffer, and the call beside it: "the report's buffer may hold anything"
+  Report : List ℕ → Reading
+  ReportBeside : List ℕ → Reading
   -- the batches cut for a cause, the tables visited, a level, a rate, whether the relay is bounded
   Count : Cause → Reading
   Visited : Reading
@@ -59,12 +60,10 @@ abbrev pub state-of : Shedder → Memory → State
 state-of h m = record { head = h; memory = m }
 
 -- ---- refusals by number
--- "Report: 3, 4, 7"
-abbrev pub report-asked : State → Bool → ℕ
-report-asked s fits =
-    cond (shed.head-whole (s .head))
-    (cond (shed.memory-whole (s .head) (length (s .memory .rows .hashes)) (length (s .memory .rows .units)) (length (s .memory .rows .uses)) (length (s .memory .counted))) (cond fits 0 7) 4)
-    3
+-- "Report: 3, 4, 7": the number that the contracts of the report and of the call beside it cite
+abbrev pub report-number : State → List ℕ → ℕ
+report-number s out =
+    report-asked (s .head) (length (s .memory .rows .hashes)) (length (s .memory .rows .units)) (length (s .memory .rows .uses)) (s .memory .counted) (length out)
 
 abbrev pub judges : State → unit.Unit → List ℕ → ℕ → shed.Judged
 judges s u cost t = shed.judge (s .head) (s .memory) u cost t
@@ -74,8 +73,8 @@ cuts s u c cost = shed.cut (s .head) (s .memory .rows) (s .memory .counted) u c 
 
 -- document 01's number of a call's refusal, 0 where it is not refused
 abbrev pub read-number : State → Reading → ℕ
-read-number s (Report fits) = report-asked s fits
-read-number s (ReportBeside fits) = report-asked s fits
+read-number s (Report out) = report-number s out
+read-number s (ReportBeside out) = report-number s out
 read-number s (Count c) = shed.reading-number (shed.cut-batches (s .head) c)
 read-number s Visited = shed.reading-number (shed.visited-tables (s .head))
 read-number s (Level d) = shed.level-number (shed.level-read (s .head) d)

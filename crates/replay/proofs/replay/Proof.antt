@@ -1,0 +1,84 @@
+use mathlib.Core.Path.{_≡_, refl, _∙_}
+use Prim.Native.Nat.{ℕ, _≤_, _<_, _-_, _+_}
+use native.Mathlib.Omega.{arith}
+use borrow.Author.Needs.{needs}
+use lib.ListN.{length}
+use Rattle.store.specs.Store.{rows}
+use Rattle.wants.specs.Wants.{hist}
+use Rattle.shed.specs.Judging.{memory}
+use Rattle.fair.specs.Calls.{state-of, state}
+use Rattle.replay.specs.Replay.{calls-in}
+use Rattle.replay.proofs.Turning.{run-none, run-next}
+use Rattle.replay.proofs.replay.Statement.{statement}
+use Rattle.replay.proofs.replay.Tie as tie
+
+abbrev Inv-loop : tie.InvT-loop
+Inv-loop hashes₀ units₀ uses₀ counts₀ sums₀ counted₀ list held₀ i₀ hashes units uses counts sums counted held i =
+    (i ≤ length list) × (state-of held (memory (rows hashes units uses) (hist counts sums) counted) ≡ state (state-of held₀ (memory (rows hashes₀ units₀ uses₀) (hist counts₀ sums₀) counted₀)) (calls-in list i))
+    × (length hashes ≡ length hashes₀) × (length units ≡ length units₀) × (length uses ≡ length uses₀) × (length counted ≡ length counted₀)
+
+abbrev μ-loop : tie.MeasureT-loop
+μ-loop hashes₀ units₀ uses₀ counts₀ sums₀ counted₀ list held₀ i₀ hashes units uses counts sums counted held i =
+    length list - i
+
+loop-holds : tie.Need-loop-holds Inv-loop μ-loop
+loop-holds c = (search needs, run-none _ _, refl, refl, refl, refl)
+
+mul-row : tie.Need-mul-row Inv-loop μ-loop
+mul-row c = search needs
+
+shared-slice-copy-out-row : tie.Need-shared-slice-copy-out-row Inv-loop μ-loop
+shared-slice-copy-out-row c = search needs
+
+turn-requires : tie.Need-turn-requires Inv-loop μ-loop
+turn-requires c κs = search needs
+
+add-i : tie.Need-add-i Inv-loop μ-loop
+add-i c = omega (arith, c .before .before .before .before .before .before .before .before .before .before .before .before .before .loop-test .taken, c .before .before .before .before .before .before .before .before .before .before .before .before .before .before .before .before .good)
+
+loop-less : tie.Need-loop-less Inv-loop μ-loop
+loop-less c = search needs
+
+loop-again : tie.Need-loop-again Inv-loop μ-loop
+loop-again c = (
+  search needs,
+  run-next _ _ _ _ _ (c .before .before .before .before .before .before .before .before .before .before .before .before .before .before .loop .inv .1) (c .before .before .before .before .before .turn .ensures),
+  c .before .before .before .before .before .turn .kept .1 .0 ∙ c .before .before .before .before .before .before .before .before .before .before .before .before .before .before .loop .inv .2,
+  c .before .before .before .before .before .turn .kept .1 .1 .0 ∙ c .before .before .before .before .before .before .before .before .before .before .before .before .before .before .loop .inv .3,
+  c .before .before .before .before .before .turn .kept .1 .1 .1 .0 ∙ c .before .before .before .before .before .before .before .before .before .before .before .before .before .before .loop .inv .4,
+  c .before .before .before .before .before .turn .kept .1 .1 .1 .1 .1 .1 .0 ∙ c .before .before .before .before .before .before .before .before .before .before .before .before .before .before .loop .inv .5,
+)
+
+same-length : tie.Need-same-length Inv-loop μ-loop
+same-length c = c .before .loop .inv .2
+
+same-length-2 : tie.Need-same-length-2 Inv-loop μ-loop
+same-length-2 c = c .before .loop .inv .3
+
+same-length-3 : tie.Need-same-length-3 Inv-loop μ-loop
+same-length-3 c = c .before .loop .inv .4
+
+same-length-4 : tie.Need-same-length-4 Inv-loop μ-loop
+same-length-4 c = c .before .loop .inv .5
+
+returns : tie.Need-returns Inv-loop μ-loop
+returns c = let e : c .before .loop .i ≡ length (c .before .before .before .args .list .now) = omega arith in rw e at (c .before .loop .inv .1)
+
+pub replay-spec : {M : Type 1} → statement M
+replay-spec =
+    tie.close
+    (tie.spec
+    Inv-loop
+    μ-loop
+    loop-holds
+    mul-row
+    shared-slice-copy-out-row
+    turn-requires
+    add-i
+    loop-less
+    loop-again
+    same-length
+    same-length-2
+    same-length-3
+    same-length-4
+    returns)
