@@ -1,6 +1,8 @@
 // Replays the list on standard input, which tools/make_trial_list.py makes with the Rust oracle: each line of the trial's
 // language is followed by what the oracle printed for it, each line of that behind `= `. Says how many lines agree, or
 // which is the first that does not.
+ghost use mathlib.Core.Path.{_≡_};
+ghost use lib.ListN.{take};
 use flow::DIMS;
 use libc::STDIN_FILENO;
 use libc::STDOUT_FILENO;
@@ -27,6 +29,17 @@ struct Replay {
     from: usize,
     lines: u64,
     differs: u64,
+    is_over: bool,
+}
+
+// The first n bytes of s; all of s where it has fewer.
+fn front(s: &[u8], n: usize) -> &[u8]
+    ensures { λ r. ⌜ now r ≡ take n (now (s .entry)) ⌝ }
+{
+    if s.len() < n {
+        return s;
+    }
+    &s[..n]
 }
 
 fn failed(mut r: Replay) -> Replay {
@@ -38,7 +51,8 @@ fn failed(mut r: Replay) -> Replay {
 
 // The list has no more of the last answer: all of it must have been found.
 fn settled(r: Replay) -> Replay {
-    if r.from == r.trial.at {
+    let t = r.trial;
+    if r.from == t.at {
         return r;
     }
     failed(r)
@@ -55,85 +69,77 @@ fn is_answer(line: &[u8]) -> bool {
     line[1] == b' '
 }
 
-// Whether the page goes on with this line of an answer from the place on.
-fn goes_on(page: &[u8], from: usize, at: usize, line: &[u8]) -> bool {
+// The place behind this line of an answer, where the page has it from the place on; else 0.
+fn behind(page: &[u8], from: usize, at: usize, line: &[u8]) -> usize {
     if line.len() < 2 {
-        return false;
+        return 0;
     }
     if page.len() < at {
-        return false;
+        return 0;
     }
     if at < from {
-        return false;
+        return 0;
     }
     let n = line.len() - 2;
     if at - from <= n {
-        return false;
+        return 0;
     }
     let end = from + n;
     if page[end] != FEED {
-        return false;
+        return 0;
     }
-    text::same(&page[from..end], &line[2..])
+    if text::same(&page[from..end], &line[2..]) {
+        return end + 1;
+    }
+    0
 }
 
 fn compared(mut r: Replay, page: &[u8], line: &[u8]) -> Replay {
-    let from = r.from;
-    if goes_on(page, from, r.trial.at, line) {
-        r.from = from + line.len() - 1;
-        return r;
+    let t = r.trial;
+    let next = behind(page, r.from, t.at, line);
+    if next == 0 {
+        return failed(r);
     }
-    failed(r)
+    r.from = next;
+    r
 }
 
 // The line that is kept: a line of an answer, or the next line to answer.
 fn ended(
     replay: Replay,
-    hashes: &mut [u64],
-    units: &mut [[u64; 7]],
-    uses: &mut [[f64; 2 * DIMS]],
+    hashes: &mut [u64; UNITS],
+    units: &mut [[u64; 7]; UNITS],
+    uses: &mut [[f64; 2 * DIMS]; UNITS],
     counts: &mut [[u32; 768]; DIMS],
     sums: &mut [[f64; 768]; DIMS],
-    counted: &mut [[u64; 8]],
-    line: &[u8],
-    page: &mut [u8],
+    counted: &mut [[u64; 8]; COUNTED],
+    line: &[u8; LINE],
+    page: &mut [u8; PAGE],
 ) -> Replay {
     let mut r = replay;
-    let len = r.len;
+    let whole = front(line, r.len);
     r.len = 0;
-    if line.len() < len {
-        return r;
-    }
-    if is_answer(&line[..len]) {
-        return compared(r, page, &line[..len]);
+    if is_answer(whole) {
+        return compared(r, page, whole);
     }
     let s = settled(r);
     let mut t = s.trial;
     t.at = 0;
-    let a = trial::answer(
-        t,
-        hashes,
-        units,
-        uses,
-        counts,
-        sums,
-        counted,
-        &line[..len],
-        page,
-    );
+    let a = trial::answer(t, hashes, units, uses, counts, sums, counted, whole, page);
     Replay {
         trial: a,
         len: 0,
         from: 0,
         lines: std::num::wrapping_add_u64(s.lines, 1),
         differs: s.differs,
+        is_over: false,
     }
 }
 
 // A byte more of the line.
-fn kept(mut r: Replay, line: &mut [u8], x: u8) -> Replay {
+fn kept(mut r: Replay, line: &mut [u8; LINE], x: u8) -> Replay {
     let len = r.len;
-    if len < line.len() {
+    if len < LINE {
         line[len] = x;
         r.len = len + 1;
     }
@@ -142,14 +148,14 @@ fn kept(mut r: Replay, line: &mut [u8], x: u8) -> Replay {
 
 fn block(
     replay: Replay,
-    hashes: &mut [u64],
-    units: &mut [[u64; 7]],
-    uses: &mut [[f64; 2 * DIMS]],
+    hashes: &mut [u64; UNITS],
+    units: &mut [[u64; 7]; UNITS],
+    uses: &mut [[f64; 2 * DIMS]; UNITS],
     counts: &mut [[u32; 768]; DIMS],
     sums: &mut [[f64; 768]; DIMS],
-    counted: &mut [[u64; 8]],
-    line: &mut [u8],
-    page: &mut [u8],
+    counted: &mut [[u64; 8]; COUNTED],
+    line: &mut [u8; LINE],
+    page: &mut [u8; PAGE],
     input: &[u8],
 ) -> Replay {
     let mut r = replay;
@@ -177,6 +183,40 @@ fn say(r: Replay) {
     }
 }
 
+// Reads once, and replays the lines that came.
+fn turn(
+    mut r: Replay,
+    hashes: &mut [u64; UNITS],
+    units: &mut [[u64; 7]; UNITS],
+    uses: &mut [[f64; 2 * DIMS]; UNITS],
+    counts: &mut [[u32; 768]; DIMS],
+    sums: &mut [[f64; 768]; DIMS],
+    counted: &mut [[u64; 8]; COUNTED],
+    line: &mut [u8; LINE],
+    page: &mut [u8; PAGE],
+) -> Replay {
+    let mut input = [0u8; BLOCK];
+    let got = libc::read(STDIN_FILENO, &mut input);
+    let n = io::count(got, &input);
+    if n == 0 {
+        r.is_over = true;
+        return r;
+    }
+    block(
+        r,
+        hashes,
+        units,
+        uses,
+        counts,
+        sums,
+        counted,
+        line,
+        page,
+        &input[..n],
+    )
+}
+
+// Nothing says that an input ends, so the turns are counted down from a number that no run uses up.
 fn main() {
     let mut hashes = [0u64; UNITS];
     let unit = [0u64; 7];
@@ -191,22 +231,17 @@ fn main() {
     let mut counted = [source; COUNTED];
     let mut line = [0u8; LINE];
     let mut page = [0u8; PAGE];
-    let mut input = [0u8; BLOCK];
     let mut r = Replay {
         trial: trial::unstarted(),
         len: 0,
         from: 0,
         lines: 0,
         differs: 0,
+        is_over: false,
     };
     let mut turns = u64::MAX;
     while turns > 0 {
-        let got = libc::read(STDIN_FILENO, &mut input);
-        let n = io::count(got, &input);
-        if n == 0 {
-            break;
-        }
-        r = block(
+        r = turn(
             r,
             &mut hashes,
             &mut units,
@@ -216,8 +251,10 @@ fn main() {
             &mut counted,
             &mut line,
             &mut page,
-            &input[..n],
         );
+        if r.is_over {
+            break;
+        }
         turns -= 1;
     }
     say(settled(r));

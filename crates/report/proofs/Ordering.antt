@@ -28,7 +28,7 @@ less-cons x y a b h = by-first (eqb x y) refl h
     by-first true e h = inr (eqb-true x y e, h)
     by-first false e h = inl (ltb-true x y h)
 
-less-first : (x y : ℕ) (a b : List ℕ) → x < y → less (x ∷ a) (y ∷ b) ≡ true
+pub less-first : (x y : ℕ) (a b : List ℕ) → x < y → less (x ∷ a) (y ∷ b) ≡ true
 unfolding less
 less-first x y a b h = simp (ne-eqb x y (λ e. omega arith), lt-ltb x y h)
 

@@ -3,7 +3,6 @@ mod lines;
 mod sources;
 
 ghost use mathlib.Core.Path.{_≡_};
-ghost use Prim.Native.Nat.{_<_};
 ghost use lib.ListN.{length, take};
 ghost use Rattle.io.specs.Counts.{Counts};
 ghost use Rattle.report.specs.Report as reports;

@@ -1,8 +1,13 @@
 // Which sources a report names, and in which order.
 ghost use mathlib.Core.Path.{_≡_};
-ghost use Prim.Native.Nat.{_<_, _≤_};
+ghost use Prim.Native.Nat.{ℕ, _<_, _≤_};
+ghost use mathlib.Core.List.{List, _++_};
 ghost use lib.ListN.{length};
+ghost use Rattle.text.specs.Number.{word};
+ghost use Rattle.text.specs.Order.{less};
+ghost use Rattle.sender.specs.Label.{key-label};
 ghost use Rattle.report.specs.Sources as sources;
+use sender::PublicKey;
 use sender::Unit;
 use sender::Words;
 use sender::label::label_less;
@@ -32,21 +37,72 @@ pub fn counts_at(counted: &[[u64; 8]], i: usize) -> [u64; 3]
     [row[5], row[6], row[7]]
 }
 
+// Whether 16 hexadecimal digits of x, and a text behind them, stand before those of y and another text; rest tells
+// whether the one text behind stands before the other.
+fn word_less(x: u64, y: u64, rest: bool) -> bool
+    ensures { λ r. ⌜ ((xs ys : List ℕ) → rest ≡ less xs ys → r ≡ less (word x ++ xs) (word y ++ ys)) ⌝ }
+{
+    if x == y {
+        return rest;
+    }
+    x < y
+}
+
+// Whether the label of key x stands before that of y, by their words: no label is written.
+fn key_less(x: PublicKey, y: PublicKey) -> bool
+    ensures { λ r. ⌜ r ≡ less (key-label x) (key-label y) ⌝ }
+{
+    let d = word_less(x.d, y.d, false);
+    let c = word_less(x.c, y.c, d);
+    let b = word_less(x.b, y.b, c);
+    word_less(x.a, y.a, b)
+}
+
+// Whether the label of source i stands before that of source j. That of a key stands before all others.
+fn label_less_at(counted: &[[u64; 8]], i: usize, j: usize) -> bool
+    requires { ⌜ i < length (now counted) ⌝ }
+    requires { ⌜ j < length (now counted) ⌝ }
+    ensures { λ r. ⌜ r ≡ less (sources.label-at (now (counted .entry)) i) (sources.label-at (now (counted .entry)) j) ⌝ }
+{
+    let x = counted[i];
+    let y = counted[j];
+    if x[0] == 0 {
+        if y[0] == 0 {
+            let k = PublicKey {
+                a: x[1],
+                b: x[2],
+                c: x[3],
+                d: x[4],
+            };
+            let l = PublicKey {
+                a: y[1],
+                b: y[2],
+                c: y[3],
+                d: y[4],
+            };
+            return key_less(k, l);
+        }
+        return true;
+    }
+    if y[0] == 0 {
+        return false;
+    }
+    label_less(unit_at(counted, i), unit_at(counted, j))
+}
+
 // Of two sources with the same total: the label by bytes, then the order of the store.
 fn label_precedes(counted: &[[u64; 8]], i: usize, j: usize) -> bool
     requires { ⌜ i < length (now counted) ⌝ }
     requires { ⌜ j < length (now counted) ⌝ }
     ensures { λ r. ⌜ r ≡ sources.label-precedes (now (counted .entry)) i j ⌝ }
 {
-    let u = unit_at(counted, i);
-    let v = unit_at(counted, j);
-    if label_less(u, v) {
+    if label_less_at(counted, i, j) {
         return true;
     }
-    if label_less(v, u) {
-        return false;
+    if i < j {
+        return !label_less_at(counted, j, i);
     }
-    i < j
+    false
 }
 
 // Whether source i stands before source j: the larger total first.
@@ -95,7 +151,8 @@ fn earlier(counted: &[[u64; 8]], n: usize, best: usize, i: usize) -> usize
     best
 }
 
-// The earlier of source i, where it stands after p, and the best so far.
+// The earlier of source i, where it stands after p, and the best so far. Few precede the best, and only those are
+// compared with p.
 fn better(counted: &[[u64; 8]], n: usize, p: usize, best: usize, i: usize) -> usize
     requires { ⌜ n ≤ length (now counted) ⌝ }
     requires { ⌜ p ≤ n ⌝ }
@@ -104,8 +161,12 @@ fn better(counted: &[[u64; 8]], n: usize, p: usize, best: usize, i: usize) -> us
     ensures { λ r. ⌜ r ≡ sources.better (now (counted .entry)) n p best i ⌝ }
     ensures { λ r. ⌜ r ≤ n ⌝ }
 {
+    let e = earlier(counted, n, best, i);
+    if e == best {
+        return best;
+    }
     if is_after(counted, n, p, i) {
-        return earlier(counted, n, best, i);
+        return e;
     }
     best
 }

@@ -1,4 +1,6 @@
 // Standard input cut into lines, and the answers written to standard output.
+ghost use mathlib.Core.Path.{_≡_};
+ghost use lib.ListN.{take};
 use flow::DIMS;
 use libc::STDIN_FILENO;
 use libc::STDOUT_FILENO;
@@ -18,24 +20,28 @@ const FULL: usize = 61336;
 
 const FEED: u8 = 10;
 
-// The trial, and how many bytes of the line that is being read are kept.
+// The trial, how many bytes of the line that is being read are kept, and whether the input has ended.
 struct Served {
     trial: Trial,
     len: usize,
+    is_over: bool,
 }
 
-// Writes the front of the page.
-fn write_page(page: &[u8], at: usize) {
-    if at <= page.len() {
-        io::write_all(STDOUT_FILENO, &page[..at]);
+// The first n bytes of s; all of s where it has fewer.
+fn front(s: &[u8], n: usize) -> &[u8]
+    ensures { λ r. ⌜ now r ≡ take n (now (s .entry)) ⌝ }
+{
+    if s.len() < n {
+        return s;
     }
+    &s[..n]
 }
 
 fn flushed(mut t: Trial, page: &[u8]) -> Trial {
     if t.at < FULL {
         return t;
     }
-    write_page(page, t.at);
+    io::write_all(STDOUT_FILENO, front(page, t.at));
     t.at = 0;
     t
 }
@@ -43,55 +49,47 @@ fn flushed(mut t: Trial, page: &[u8]) -> Trial {
 // Answers the line that is kept.
 fn ended(
     s: Served,
-    hashes: &mut [u64],
-    units: &mut [[u64; 7]],
-    uses: &mut [[f64; 2 * DIMS]],
+    hashes: &mut [u64; UNITS],
+    units: &mut [[u64; 7]; UNITS],
+    uses: &mut [[f64; 2 * DIMS]; UNITS],
     counts: &mut [[u32; 768]; DIMS],
     sums: &mut [[f64; 768]; DIMS],
-    counted: &mut [[u64; 8]],
-    line: &[u8],
-    page: &mut [u8],
+    counted: &mut [[u64; 8]; COUNTED],
+    line: &[u8; LINE],
+    page: &mut [u8; BLOCK],
 ) -> Served {
-    let len = s.len;
     let t = s.trial;
-    if line.len() < len {
-        return s;
-    }
-    let a = trial::answer(
-        t,
-        hashes,
-        units,
-        uses,
-        counts,
-        sums,
-        counted,
-        &line[..len],
-        page,
-    );
+    let whole = front(line, s.len);
+    let a = trial::answer(t, hashes, units, uses, counts, sums, counted, whole, page);
     let f = flushed(a, page);
-    Served { trial: f, len: 0 }
+    Served {
+        trial: f,
+        len: 0,
+        is_over: false,
+    }
 }
 
 // A byte more of the line.
-fn kept(mut s: Served, line: &mut [u8], x: u8) -> Served {
+fn kept(mut s: Served, line: &mut [u8; LINE], x: u8) -> Served {
     let len = s.len;
-    if len < line.len() {
+    if len < LINE {
         line[len] = x;
         s.len = len + 1;
     }
     s
 }
 
+// Answers each line that ends in a block of the input, and keeps what stands behind the last.
 fn block(
     served: Served,
-    hashes: &mut [u64],
-    units: &mut [[u64; 7]],
-    uses: &mut [[f64; 2 * DIMS]],
+    hashes: &mut [u64; UNITS],
+    units: &mut [[u64; 7]; UNITS],
+    uses: &mut [[f64; 2 * DIMS]; UNITS],
     counts: &mut [[u32; 768]; DIMS],
     sums: &mut [[f64; 768]; DIMS],
-    counted: &mut [[u64; 8]],
-    line: &mut [u8],
-    page: &mut [u8],
+    counted: &mut [[u64; 8]; COUNTED],
+    line: &mut [u8; LINE],
+    page: &mut [u8; BLOCK],
     input: &[u8],
 ) -> Served {
     let mut s = served;
@@ -108,6 +106,62 @@ fn block(
     s
 }
 
+// Reads once, and answers the lines that came.
+fn turn(
+    mut s: Served,
+    hashes: &mut [u64; UNITS],
+    units: &mut [[u64; 7]; UNITS],
+    uses: &mut [[f64; 2 * DIMS]; UNITS],
+    counts: &mut [[u32; 768]; DIMS],
+    sums: &mut [[f64; 768]; DIMS],
+    counted: &mut [[u64; 8]; COUNTED],
+    line: &mut [u8; LINE],
+    page: &mut [u8; BLOCK],
+) -> Served {
+    let mut input = [0u8; BLOCK];
+    let got = libc::read(STDIN_FILENO, &mut input);
+    let n = io::count(got, &input);
+    if n == 0 {
+        s.is_over = true;
+        return s;
+    }
+    block(
+        s,
+        hashes,
+        units,
+        uses,
+        counts,
+        sums,
+        counted,
+        line,
+        page,
+        &input[..n],
+    )
+}
+
+// Answers a last line that has no line end, and writes what is left of the page.
+fn finish(
+    s: Served,
+    hashes: &mut [u64; UNITS],
+    units: &mut [[u64; 7]; UNITS],
+    uses: &mut [[f64; 2 * DIMS]; UNITS],
+    counts: &mut [[u32; 768]; DIMS],
+    sums: &mut [[f64; 768]; DIMS],
+    counted: &mut [[u64; 8]; COUNTED],
+    line: &[u8; LINE],
+    page: &mut [u8; BLOCK],
+) {
+    if s.len == 0 {
+        let t = s.trial;
+        io::write_all(STDOUT_FILENO, front(page, t.at));
+        return;
+    }
+    let e = ended(s, hashes, units, uses, counts, sums, counted, line, page);
+    let t = e.trial;
+    io::write_all(STDOUT_FILENO, front(page, t.at));
+}
+
+// The whole input. Nothing says that an input ends, so the turns are counted down from a number that no run uses up.
 pub fn serve() {
     let mut hashes = [0u64; UNITS];
     let unit = [0u64; 7];
@@ -122,19 +176,14 @@ pub fn serve() {
     let mut counted = [source; COUNTED];
     let mut line = [0u8; LINE];
     let mut page = [0u8; BLOCK];
-    let mut input = [0u8; BLOCK];
     let mut s = Served {
         trial: trial::unstarted(),
         len: 0,
+        is_over: false,
     };
     let mut turns = u64::MAX;
     while turns > 0 {
-        let got = libc::read(STDIN_FILENO, &mut input);
-        let n = io::count(got, &input);
-        if n == 0 {
-            break;
-        }
-        s = block(
+        s = turn(
             s,
             &mut hashes,
             &mut units,
@@ -144,22 +193,21 @@ pub fn serve() {
             &mut counted,
             &mut line,
             &mut page,
-            &input[..n],
         );
+        if s.is_over {
+            break;
+        }
         turns -= 1;
     }
-    if s.len > 0 {
-        s = ended(
-            s,
-            &mut hashes,
-            &mut units,
-            &mut uses,
-            &mut counts,
-            &mut sums,
-            &mut counted,
-            &line,
-            &mut page,
-        );
-    }
-    write_page(&page, s.trial.at);
+    finish(
+        s,
+        &mut hashes,
+        &mut units,
+        &mut uses,
+        &mut counts,
+        &mut sums,
+        &mut counted,
+        &line,
+        &mut page,
+    );
 }

@@ -1,42 +1,34 @@
 -- `sources::label_precedes` meets its contract: labels, then places. Assumes nothing.
-use Rattle.report.specs.Sources.{label-precedes}
 use mathlib.Core.Path.{sym}
 use borrow.Author.Needs.{needs}
+use borrow.Author.Tests.{lt-ltb, le-ltb}
+use Rattle.report.specs.Sources.{label-at, label-precedes}
+use Rattle.text.specs.Order.{less}
+use Rattle.report.proofs.Keys.{not-cond, false-cond}
 use Rattle.report.proofs.sources.label_precedes.Statement.{statement}
 use Rattle.report.proofs.sources.label_precedes.Tie as tie
 
-unit-at-requires : tie.Need-unit-at-requires
-unit-at-requires c κs = search needs
-
-unit-at-requires-2 : tie.Need-unit-at-requires-2
-unit-at-requires-2 c κs = search needs
-
-label-less-requires : tie.Need-label-less-requires
-label-less-requires c κs = search needs
+label-less-at-requires : tie.Need-label-less-at-requires
+label-less-at-requires c κs = search needs
 
 returns : tie.Need-returns
 unfolding label-precedes
-returns c = simp (sym (c .before .before .before .unit-at .ensures), sym (c .before .before .unit-at2 .ensures), sym (c .before .label-less .ensures), c .if1 .taken)
+returns c = simp (sym (c .before .label-less-at .ensures), c .if1 .taken)
 
-label-less-requires-2 : tie.Need-label-less-requires-2
-label-less-requires-2 c κs = search needs
+label-less-at-requires-2 : tie.Need-label-less-at-requires-2
+label-less-at-requires-2 c κs = search needs
 
 returns-2 : tie.Need-returns-2
 unfolding label-precedes
-returns-2 c = simp (sym (c .before .before .before .before .before .unit-at .ensures), sym (c .before .before .before .before .unit-at2 .ensures), sym (c .before .before .before .label-less .ensures), c .before .before .if1 .left, sym (c .before .label-less2 .ensures), c .if2 .taken)
+returns-2 c =
+    simp
+    (sym (c .before .before .before .label-less-at .ensures), c .before .before .if1 .left, sym (c .label-less-at2 .ensures), lt-ltb _ _ (c .before .if2 .taken))
+    (not-cond (c .label-less-at2 .result))
 
 returns-3 : tie.Need-returns-3
 unfolding label-precedes
-returns-3 c = simp (sym (c .before .before .before .before .before .unit-at .ensures), sym (c .before .before .before .before .unit-at2 .ensures), sym (c .before .before .before .label-less .ensures), c .before .before .if1 .left, sym (c .before .label-less2 .ensures), c .if2 .left)
+returns-3 c = simp (sym (c .before .before .label-less-at .ensures), c .before .if1 .left, le-ltb _ _ (c .if2 .left))
+    (false-cond (less (label-at (c .before .before .before .args .counted .now) (c .before .before .before .args .j)) (label-at (c .before .before .before .args .counted .now) (c .before .before .before .args .i))))
 
 pub label-precedes-spec : {M : Type 1} → statement M
-label-precedes-spec =
-    tie.close
-    (tie.spec
-    unit-at-requires
-    unit-at-requires-2
-    label-less-requires
-    returns
-    label-less-requires-2
-    returns-2
-    returns-3)
+label-precedes-spec = tie.close (tie.spec label-less-at-requires returns label-less-at-requires-2 returns-2 returns-3)
