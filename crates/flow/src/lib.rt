@@ -48,6 +48,7 @@ pub fn per_second(rate: u64) -> f64
     }
 }
 
+// Rates or costs as doubles.
 pub fn numbers(xs: [u64; DIMS]) -> [f64; DIMS]
     ensures { λ r. ⌜ r ≡ flow.numbers xs ⌝ }
 {
