@@ -59,7 +59,26 @@ turn-cut h m g k row w u cost c j m' k' ew eu ec ek t s e =
 pub turn-else : (h : Shedder) (m : Memory) (row : List ℕ) → eqb (getD row 0 0) 0 ≡ false → eqb (getD row 0 0) 1 ≡ false → calls.state-of h m ≡ calls.step (calls.state-of h m) (call-in row)
 turn-else h m row t s = ap (calls.step (calls.state-of h m)) (sym (call-else row t s))
 
+-- ---- the call of a row, by what the program read of it
+pub row-judge : (row : List ℕ) (w : Words) (u : unit.Unit) (cost : List ℕ) → w ≡ words-in row → u ≡ sender.unit-of w → cost ≡ cost-in row → eqb (getD row 0 0) 0 ≡ true → Judge u cost (getD row 6 0) ≡ call-in row
+row-judge row w u cost ew eu ec t =
+    ap (λ (v : unit.Unit). Judge v cost (getD row 6 0)) (unit-is row w u ew eu)
+    ∙ ap (λ (c : List ℕ). Judge (sender.unit-of (words-in row)) c (getD row 6 0)) ec ∙ sym (call-judge row t)
+
+pub row-cut : (row : List ℕ) (w : Words) (u : unit.Unit) (cost : List ℕ) (c : Cause) → w ≡ words-in row → u ≡ sender.unit-of w → cost ≡ cost-in row → c ≡ cause-in (getD row 6 0) → eqb (getD row 0 0) 0 ≡ false
+    → eqb (getD row 0 0) 1 ≡ true → Cut u c cost ≡ call-in row
+row-cut row w u cost c ew eu ec ek t s =
+    ap (λ (v : unit.Unit). Cut v c cost) (unit-is row w u ew eu)
+    ∙ ap (λ (x : Cause). Cut (sender.unit-of (words-in row)) x cost) ek
+    ∙ ap (λ (x : List ℕ). Cut (sender.unit-of (words-in row)) (cause-in (getD row 6 0)) x) ec ∙ sym (call-cut row t s)
+
+pub row-else : (row : List ℕ) → eqb (getD row 0 0) 0 ≡ false → eqb (getD row 0 0) 1 ≡ false → Read Visited ≡ call-in row
+row-else row t s = sym (call-else row t s)
+
 -- ---- the list
+pub headed : (x y : Shedder) (m : Memory) (s : State) → x ≡ y → calls.state-of y m ≡ s → calls.state-of x m ≡ s
+headed x y m s e f = ap (λ (z : Shedder). calls.state-of z m) e ∙ f
+
 pub run-none : (s : State) (rows : List (List ℕ)) → s ≡ calls.state s (calls-in rows 0)
 unfolding calls.state calls-in
 run-none s rows = refl

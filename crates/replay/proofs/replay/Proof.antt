@@ -1,28 +1,32 @@
 use mathlib.Core.Path.{_≡_, refl, _∙_}
-use Prim.Native.Nat.{ℕ, _≤_, _<_, _-_, _+_}
+use Prim.Native.Nat.{ℕ, _≤_, _<_, _-_, _+_, _^_, _%_}
 use native.Mathlib.Omega.{arith}
 use borrow.Author.Needs.{needs}
 use lib.ListN.{length}
 use Rattle.store.specs.Store.{rows}
 use Rattle.wants.specs.Wants.{hist}
 use Rattle.shed.specs.Judging.{memory}
-use Rattle.fair.specs.Calls.{state-of, state}
-use Rattle.replay.specs.Replay.{calls-in}
-use Rattle.replay.proofs.Turning.{run-none, run-next}
+use Rattle.fair.specs.Calls.{state-of, state, events, admitted, handed}
+use Rattle.replay.specs.Replay.{calls-in, totals}
+use Rattle.replay.proofs.Turning.{headed, run-none, run-next}
+use Rattle.replay.proofs.Totals.{totals-none, totals-next, taken-none, taken-next}
+use Rattle.replay.proofs.Bounds.{relay-of}
 use Rattle.replay.proofs.replay.Statement.{statement}
 use Rattle.replay.proofs.replay.Tie as tie
 
 abbrev Inv-loop : tie.InvT-loop
-Inv-loop hashes₀ units₀ uses₀ counts₀ sums₀ counted₀ list held₀ i₀ hashes units uses counts sums counted held i =
-    (i ≤ length list) × (state-of held (memory (rows hashes units uses) (hist counts sums) counted) ≡ state (state-of held₀ (memory (rows hashes₀ units₀ uses₀) (hist counts₀ sums₀) counted₀)) (calls-in list i))
+Inv-loop hashes₀ units₀ uses₀ counts₀ sums₀ counted₀ list run₀ i₀ hashes units uses counts sums counted run i =
+    (i ≤ length list) × (state-of (run .head) (memory (rows hashes units uses) (hist counts sums) counted) ≡ state (state-of (run₀ .head) (memory (rows hashes₀ units₀ uses₀) (hist counts₀ sums₀) counted₀)) (calls-in list i))
     × (length hashes ≡ length hashes₀) × (length units ≡ length units₀) × (length uses ≡ length uses₀) × (length counted ≡ length counted₀)
+    × (run .admitted ≡ totals admitted (state-of (run₀ .head) (memory (rows hashes₀ units₀ uses₀) (hist counts₀ sums₀) counted₀)) (calls-in list i)) × (run .handed ≡ totals handed (state-of (run₀ .head) (memory (rows hashes₀ units₀ uses₀) (hist counts₀ sums₀) counted₀)) (calls-in list i))
+    × (run .taken ≡ length (events (state-of (run₀ .head) (memory (rows hashes₀ units₀ uses₀) (hist counts₀ sums₀) counted₀)) (calls-in list i)) % 2 ^ 64)
 
 abbrev μ-loop : tie.MeasureT-loop
-μ-loop hashes₀ units₀ uses₀ counts₀ sums₀ counted₀ list held₀ i₀ hashes units uses counts sums counted held i =
+μ-loop hashes₀ units₀ uses₀ counts₀ sums₀ counted₀ list run₀ i₀ hashes units uses counts sums counted run i =
     length list - i
 
 loop-holds : tie.Need-loop-holds Inv-loop μ-loop
-loop-holds c = (search needs, run-none _ _, refl, refl, refl, refl)
+loop-holds c = (search needs, run-none _ _, refl, refl, refl, refl, totals-none _ _ _, totals-none _ _ _, taken-none _ _)
 
 mul-row : tie.Need-mul-row Inv-loop μ-loop
 mul-row c = search needs
@@ -33,20 +37,26 @@ shared-slice-copy-out-row c = search needs
 turn-requires : tie.Need-turn-requires Inv-loop μ-loop
 turn-requires c κs = search needs
 
+after-requires : tie.Need-after-requires Inv-loop μ-loop
+after-requires c κs = search needs
+
 add-i : tie.Need-add-i Inv-loop μ-loop
-add-i c = omega (arith, c .before .before .before .before .before .before .before .before .before .before .before .before .before .loop-test .taken, c .before .before .before .before .before .before .before .before .before .before .before .before .before .before .before .before .good)
+add-i c = omega (arith, c .before .before .before .before .before .before .before .before .before .before .before .before .before .before .before .loop-test .taken, c .before .before .before .before .before .before .before .before .before .before .before .before .before .before .before .before .before .before .good)
 
 loop-less : tie.Need-loop-less Inv-loop μ-loop
-loop-less c = search needs
+loop-less c = omega (arith, c .before .before .before .before .before .before .before .before .before .before .before .before .before .before .before .loop-test .taken)
 
 loop-again : tie.Need-loop-again Inv-loop μ-loop
 loop-again c = (
-  search needs,
-  run-next _ _ _ _ _ (c .before .before .before .before .before .before .before .before .before .before .before .before .before .before .loop .inv .1) (c .before .before .before .before .before .turn .ensures),
-  c .before .before .before .before .before .turn .kept .1 .0 ∙ c .before .before .before .before .before .before .before .before .before .before .before .before .before .before .loop .inv .2,
-  c .before .before .before .before .before .turn .kept .1 .1 .0 ∙ c .before .before .before .before .before .before .before .before .before .before .before .before .before .before .loop .inv .3,
-  c .before .before .before .before .before .turn .kept .1 .1 .1 .0 ∙ c .before .before .before .before .before .before .before .before .before .before .before .before .before .before .loop .inv .4,
-  c .before .before .before .before .before .turn .kept .1 .1 .1 .1 .1 .1 .0 ∙ c .before .before .before .before .before .before .before .before .before .before .before .before .before .before .loop .inv .5,
+  omega (arith, c .before .before .before .before .before .before .before .before .before .before .before .before .before .before .before .loop-test .taken),
+  headed _ _ _ _ (c .after .ensures .0) (run-next _ _ _ _ _ (c .before .before .before .before .before .before .before .before .before .before .before .before .before .before .before .before .loop .inv .1) (c .before .before .before .before .before .before .turn .ensures .0)),
+  c .before .before .before .before .before .before .turn .kept .1 .0 ∙ c .before .before .before .before .before .before .before .before .before .before .before .before .before .before .before .before .loop .inv .2,
+  c .before .before .before .before .before .before .turn .kept .1 .1 .0 ∙ c .before .before .before .before .before .before .before .before .before .before .before .before .before .before .before .before .loop .inv .3,
+  c .before .before .before .before .before .before .turn .kept .1 .1 .1 .0 ∙ c .before .before .before .before .before .before .before .before .before .before .before .before .before .before .before .before .loop .inv .4,
+  c .before .before .before .before .before .before .turn .kept .1 .1 .1 .1 .1 .1 .0 ∙ c .before .before .before .before .before .before .before .before .before .before .before .before .before .before .before .before .loop .inv .5,
+  totals-next admitted _ _ _ _ _ _ _ _ (c .before .before .before .before .before .before .before .before .before .before .before .before .before .before .before .before .loop .inv .1) (c .before .before .before .before .before .before .turn .ensures .1 .0) (c .before .before .before .before .before .before .turn .ensures .1 .1 .0) (c .before .before .before .before .before .before .before .before .before .before .before .before .before .before .before .before .loop .inv .6) (c .after .ensures .1 .0),
+  totals-next handed _ _ _ _ _ _ _ _ (c .before .before .before .before .before .before .before .before .before .before .before .before .before .before .before .before .loop .inv .1) (c .before .before .before .before .before .before .turn .ensures .1 .0) (c .before .before .before .before .before .before .turn .ensures .1 .1 .1) (c .before .before .before .before .before .before .before .before .before .before .before .before .before .before .before .before .loop .inv .7) (c .after .ensures .1 .1 .0),
+  taken-next _ _ _ _ _ _ _ (c .before .before .before .before .before .before .before .before .before .before .before .before .before .before .before .before .loop .inv .1) (c .before .before .before .before .before .before .turn .ensures .1 .0) (c .before .before .before .before .before .before .before .before .before .before .before .before .before .before .before .before .loop .inv .8) (c .after .ensures .1 .1 .1),
 )
 
 same-length : tie.Need-same-length Inv-loop μ-loop
@@ -62,7 +72,9 @@ same-length-4 : tie.Need-same-length-4 Inv-loop μ-loop
 same-length-4 c = c .before .loop .inv .5
 
 returns : tie.Need-returns Inv-loop μ-loop
-returns c = let e : c .before .loop .i ≡ length (c .before .before .before .args .list .now) = omega arith in rw e at (c .before .loop .inv .1)
+returns c =
+    let e : c .before .loop .i ≡ length (c .before .before .before .args .list .now) = omega arith in
+    (rw e at (c .before .loop .inv .1), (rw e at (c .before .loop .inv .6), (rw e at (c .before .loop .inv .7), (rw e at (c .before .loop .inv .8), relay-of _ _ _ (rw e at (c .before .loop .inv .6))))))
 
 pub replay-spec : {M : Type 1} → statement M
 replay-spec =
@@ -74,6 +86,7 @@ replay-spec =
     mul-row
     shared-slice-copy-out-row
     turn-requires
+    after-requires
     add-i
     loop-less
     loop-again

@@ -1,5 +1,7 @@
+use mathlib.Core.Path.{refl}
 use borrow.Author.Tests.{eq-eqb, ne-eqb}
-use Rattle.replay.proofs.Turning.{turn-judge, turn-cut, turn-else}
+use Rattle.replay.proofs.Turning.{turn-judge, turn-cut, turn-else, row-judge, row-cut, row-else}
+use Rattle.replay.proofs.Totals.{judge-number-is, judge-admits, judge-hands, cut-number-is, cut-admits, cut-hands, read-number-is, read-none}
 use borrow.Author.Needs.{needs}
 use Rattle.replay.proofs.turn.Statement.{statement}
 use Rattle.replay.proofs.turn.Tie as tie
@@ -22,6 +24,15 @@ array-read-last c = search needs
 judge-requires : tie.Need-judge-requires
 judge-requires c κs = search needs
 
+judge-number-requires : tie.Need-judge-number-requires
+judge-number-requires c κs = search needs
+
+is-admitted-requires : tie.Need-is-admitted-requires
+is-admitted-requires c κs = search needs
+
+counted-if-requires : tie.Need-counted-if-requires
+counted-if-requires c κs = search needs
+
 same-length : tie.Need-same-length
 same-length c = search needs
 
@@ -36,13 +47,31 @@ same-length-4 c = search needs
 
 returns : tie.Need-returns
 returns c =
-    turn-judge _ _ _ _ _ _ _ _ (c .before .before .before .before .before .before .before .before .before .before .before .before .before .before .before .before .words-in .ensures) (c .before .before .before .before .before .before .before .before .before .before .before .before .before .before .before .unit-of .ensures) (c .before .before .before .before .before .before .before .before .before .before .before .before .before .before .cost-in .ensures) (eq-eqb _ 0 (c .before .before .before .before .before .before .before .before .before .before .before .before .before .if1 .taken)) (c .before .before .before .before .before .before .judge .ensures .0)
+    let k = row-judge _ _ _ _ (c .before .before .before .before .before .before .before .before .before .before .before .before .before .before .before .before .before .before .before .words-in .ensures) (c .before .before .before .before .before .before .before .before .before .before .before .before .before .before .before .before .before .before .unit-of .ensures) (c .before .before .before .before .before .before .before .before .before .before .before .before .before .before .before .before .before .cost-in .ensures) (eq-eqb _ 0 (c .before .before .before .before .before .before .before .before .before .before .before .before .before .before .before .before .if1 .taken)) in (
+      turn-judge _ _ _ _ _ _ _ _ (c .before .before .before .before .before .before .before .before .before .before .before .before .before .before .before .before .before .before .before .words-in .ensures) (c .before .before .before .before .before .before .before .before .before .before .before .before .before .before .before .before .before .before .unit-of .ensures) (c .before .before .before .before .before .before .before .before .before .before .before .before .before .before .before .before .before .cost-in .ensures) (eq-eqb _ 0 (c .before .before .before .before .before .before .before .before .before .before .before .before .before .before .before .before .if1 .taken)) (c .before .before .before .before .before .before .before .before .before .judge .ensures .0),
+      (
+        judge-number-is _ _ _ _ _ _ _ k (c .before .before .before .before .before .before .before .before .before .judge .ensures .0) _ (c .before .before .judge-number .ensures),
+        (
+          judge-admits _ _ _ _ _ _ _ k (c .before .before .before .before .before .before .before .before .before .judge .ensures .0) _ _ (c .before .before .before .before .before .before .before .before .before .before .before .before .before .before .before .before .before .cost-in .ensures) (c .before .is-admitted .ensures) (c .counted-if .ensures),
+          judge-hands _ _ _ _ _ _ _ k (c .before .before .before .before .before .before .before .before .before .judge .ensures .0),
+        ),
+      ),
+    )
 
 cause-in-requires : tie.Need-cause-in-requires
 cause-in-requires c κs = search needs
 
 cut-requires : tie.Need-cut-requires
 cut-requires c κs = search needs
+
+cut-number-requires : tie.Need-cut-number-requires
+cut-number-requires c κs = search needs
+
+index-of-requires : tie.Need-index-of-requires
+index-of-requires c κs = search needs
+
+counted-if-requires-2 : tie.Need-counted-if-requires-2
+counted-if-requires-2 c κs = search needs
 
 same-length-5 : tie.Need-same-length-5
 same-length-5 c = search needs
@@ -58,10 +87,27 @@ same-length-8 c = search needs
 
 returns-2 : tie.Need-returns-2
 returns-2 c =
-    turn-cut _ _ _ _ _ _ _ _ _ _ _ _ (c .before .before .before .before .before .before .before .before .before .before .before .before .before .before .before .before .words-in .ensures) (c .before .before .before .before .before .before .before .before .before .before .before .before .before .before .before .unit-of .ensures) (c .before .before .before .before .before .before .before .before .before .before .before .before .before .before .cost-in .ensures) (c .before .before .before .before .before .before .before .before .before .before .before .cause-in .ensures) (ne-eqb _ 0 (c .before .before .before .before .before .before .before .before .before .before .before .before .before .if1 .left)) (eq-eqb _ 1 (c .before .before .before .before .before .before .before .before .before .before .before .before .if2 .taken)) (c .before .before .before .before .before .before .cut .ensures .0)
+    let k = row-cut _ _ _ _ _ (c .before .before .before .before .before .before .before .before .before .before .before .before .before .before .before .before .before .before .before .words-in .ensures) (c .before .before .before .before .before .before .before .before .before .before .before .before .before .before .before .before .before .before .unit-of .ensures) (c .before .before .before .before .before .before .before .before .before .before .before .before .before .before .before .before .before .cost-in .ensures) (c .before .before .before .before .before .before .before .before .before .before .before .before .before .before .cause-in .ensures) (ne-eqb _ 0 (c .before .before .before .before .before .before .before .before .before .before .before .before .before .before .before .before .if1 .left)) (eq-eqb _ 1 (c .before .before .before .before .before .before .before .before .before .before .before .before .before .before .before .if2 .taken)) in (
+      turn-cut _ _ _ _ _ _ _ _ _ _ _ _ (c .before .before .before .before .before .before .before .before .before .before .before .before .before .before .before .before .before .before .before .words-in .ensures) (c .before .before .before .before .before .before .before .before .before .before .before .before .before .before .before .before .before .before .unit-of .ensures) (c .before .before .before .before .before .before .before .before .before .before .before .before .before .before .before .before .before .cost-in .ensures) (c .before .before .before .before .before .before .before .before .before .before .before .before .before .before .cause-in .ensures) (ne-eqb _ 0 (c .before .before .before .before .before .before .before .before .before .before .before .before .before .before .before .before .if1 .left)) (eq-eqb _ 1 (c .before .before .before .before .before .before .before .before .before .before .before .before .before .before .before .if2 .taken)) (c .before .before .before .before .before .before .before .before .before .cut .ensures .0),
+      (
+        cut-number-is _ _ _ _ _ _ _ _ _ _ _ k (c .before .before .before .before .before .before .before .before .before .cut .ensures .0) _ (c .before .before .cut-number .ensures),
+        (
+          cut-admits _ _ _ _ _ _ _ _ _ _ _ k (c .before .before .before .before .before .before .before .before .before .cut .ensures .0),
+          cut-hands _ _ _ _ _ _ _ _ _ _ _ k (c .before .before .before .before .before .before .before .before .before .cut .ensures .0) _ _ (c .before .before .before .before .before .before .before .before .before .before .before .before .before .before .before .before .before .cost-in .ensures) (c .before .index-of .ensures .0) (c .counted-if2 .ensures),
+        ),
+      ),
+    )
+
+visited-requires : tie.Need-visited-requires
+visited-requires c κs = search needs
+
+reading-number-requires : tie.Need-reading-number-requires
+reading-number-requires c κs = search needs
 
 returns-3 : tie.Need-returns-3
-returns-3 c = turn-else _ _ _ (ne-eqb _ 0 (c .before .if1 .left)) (ne-eqb _ 1 (c .if2 .left))
+returns-3 c =
+    let k = row-else _ (ne-eqb _ 0 (c .before .before .before .if1 .left)) (ne-eqb _ 1 (c .before .before .if2 .left)) in
+    (turn-else _ _ _ (ne-eqb _ 0 (c .before .before .before .if1 .left)) (ne-eqb _ 1 (c .before .before .if2 .left)), (read-number-is _ _ _ k _ _ (c .before .visited .ensures .0) (c .reading-number .ensures), (read-none _ _ _ k _ (λ d. refl), read-none _ _ _ k _ (λ d. refl))))
 
 pub turn-spec : {M : Type 1} → statement M
 turn-spec =
@@ -73,6 +119,9 @@ turn-spec =
     array-read-which
     array-read-last
     judge-requires
+    judge-number-requires
+    is-admitted-requires
+    counted-if-requires
     same-length
     same-length-2
     same-length-3
@@ -80,9 +129,14 @@ turn-spec =
     returns
     cause-in-requires
     cut-requires
+    cut-number-requires
+    index-of-requires
+    counted-if-requires-2
     same-length-5
     same-length-6
     same-length-7
     same-length-8
     returns-2
+    visited-requires
+    reading-number-requires
     returns-3)

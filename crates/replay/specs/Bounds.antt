@@ -1,0 +1,27 @@
+-- Demand 3's first bound, of a whole list from what a start at bounded rates left, for the total that `replay` returns. The statement.
+use Prim.Native.Nat.{ℕ, _+_, _-_, _*_, _≤_, _<_}
+use mathlib.Core.Path.{_≡_}
+use mathlib.Core.Bool.{true}
+use mathlib.Core.List.{List}
+use lib.ListN.{length, getD}
+use Rattle.flow.specs.Flow.{dims}
+use Rattle.head.specs.declared.Shedder.{Shedder}
+use Rattle.head.specs.declared.Begin.the-variants as begin
+use Rattle.head.specs.Questions.{all-rates}
+use Rattle.shed.specs.Judging.{Memory}
+use Rattle.fair.specs.Calls.{State, Call, events, span, left, starts, handed}
+use Rattle.fair.specs.Tokens.{burst}
+use Rattle.replay.specs.Replay.{whole}
+
+-- the calls not refused by number, and the milliseconds of the clock from the first of them to the last (0 where there is none)
+abbrev pub taken : State → List Call → ℕ
+taken first h = length (events first h)
+
+abbrev pub lasts : State → List Call → ℕ
+lasts first h = span (events first h) (taken first h - 1)
+
+-- admitted cost ≤ burst + rate * T + handed back + n / 256: `total` is what `replay` returned in each dimension, what was handed back and n are exact
+abbrev pub Relay : State → List Call → List ℕ → Type 0
+Relay first h total = (was : Shedder) (m : Memory) (rate ceiling : List ℕ) → all-rates rate ≡ true → starts was m rate ceiling .answer ≡ begin.Started → first ≡ left was m rate ceiling → (d : ℕ) → d < dims
+    → 256000 * getD total d 0
+    ≤ 256000 * burst (getD rate d 0) (getD ceiling d 0) + 256 * (getD rate d 0 * lasts first h) + 256000 * whole (handed d) first h + 1000 * taken first h
