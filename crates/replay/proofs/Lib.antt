@@ -1,3 +1,4 @@
 pub mod Turning
+pub mod Watched
 pub mod Totals
 pub mod Bounds

@@ -30,7 +30,8 @@ use Rattle.sender.specs.declared.Unit as unit
 use Rattle.fair.specs.Calls as calls
 use Rattle.fair.specs.Calls.{State, Call, Judge, Cut, Read, Visited, Event, by}
 use Rattle.fair.specs.Runs.{sum}
-use Rattle.replay.specs.Replay.{call-in, calls-in, cost-in, is-admitted, counted-if, amounts, sums, whole, totals}
+use Rattle.replay.specs.Replay.{call-in, calls-in, cost-in, is-admitted, counted-if, amounts, sums, whole, totals, on-watched}
+use Rattle.replay.proofs.Watched.{watched-is}
 
 -- two functions that agree at each dimension give the same list
 same-parts : (f g : ℕ → ℕ) (n : ℕ) (xs : List ℕ) → ((d : ℕ) → d < n → f d ≡ g d) → upto f n xs ≡ upto g n xs
@@ -90,15 +91,20 @@ pub taken-none : (first : State) (rows : List (List ℕ)) → 0 ≡ length (call
 unfolding calls-in calls.events
 taken-none first rows = refl
 
+-- what a refused call amounts to does not matter
+only-taken : (n : ℕ) (b : Bool) (xs ys t : List ℕ) → eqb n 0 ≡ b → (n ≡ 0 → xs ≡ ys) → cond b (sums t xs) t ≡ cond b (sums t ys) t
+only-taken n true xs ys t e f = ap (sums t) (f (eqb-true n 0 e))
+only-taken n false xs ys t e f = refl
+
 pub totals-next : (w : ℕ → State → Call → ℕ) (first s : State) (rows : List (List ℕ)) (i n : ℕ) (xs ys am : List ℕ) → s ≡ calls.state first (calls-in rows i) → n ≡ calls.number s (call-in (getD rows i []))
-    → am ≡ amounts w s (call-in (getD rows i [])) → xs ≡ totals w first (calls-in rows i) → ys ≡ cond (eqb n 0) (sums xs am) xs → ys ≡ totals w first (calls-in rows (i + 1))
+    → (n ≡ 0 → am ≡ amounts w s (call-in (getD rows i []))) → xs ≡ totals w first (calls-in rows i) → ys ≡ cond (eqb n 0) (sums xs am) xs → ys ≡ totals w first (calls-in rows (i + 1))
 unfolding calls-in
 totals-next w first s rows i n xs ys am es en ea ex ey =
     let c = call-in (getD rows i []) in
     let h = calls-in rows i in
     rw add-one
     (ey ∙ ap (λ (z : List ℕ). cond (eqb n 0) (sums z am) z) ex
-    ∙ ap (λ (z : List ℕ). cond (eqb n 0) (sums (totals w first h) z) (totals w first h)) (ea ∙ ap (λ (z : State). amounts w z c) es)
+    ∙ only-taken n (eqb n 0) am (amounts w (calls.state first h) c) (totals w first h) refl (λ z. ea z ∙ ap (λ (z : State). amounts w z c) es)
     ∙ ap (λ (z : ℕ). cond (eqb z 0) (sums (totals w first h) (amounts w (calls.state first h) c)) (totals w first h)) (en ∙ ap (λ (z : State). calls.number z c) es)
     ∙ totals-step w first h c _ refl)
 
@@ -137,6 +143,11 @@ hands cause.ReceiverCeiling cost e = e
 hands cause.OverShare cost e = zeros-parts
 hands cause.RelayRate cost e = zeros-parts
 
+on-parts : (b : Bool) (f : ℕ → ℕ) → counted-if b (upto f dims (replicate dims 0)) ≡ upto (λ (d : ℕ). cond b (f d) 0) dims (replicate dims 0)
+unfolding counted-if
+on-parts true f = refl
+on-parts false f = zeros-parts
+
 module _ (h : Shedder) (m : Memory) (row : List ℕ) (u : unit.Unit) (cost : List ℕ) (j : Judgement) (n : Memory) (k : Judge u cost (getD row 6 0) ≡ call-in row) (e : judging.judgement j n ≡ judging.judge h m u cost (getD row 6 0)) where
   pub judge-number-is : (x : ℕ) → x ≡ judge-number (j .answer) → x ≡ calls.number (calls.state-of h m) (call-in row)
   judge-number-is x f = f ∙ ap (λ (y : judging.Judged). judge-number (y .answer)) e ∙ ap (calls.number (calls.state-of h m)) k
@@ -147,6 +158,16 @@ module _ (h : Shedder) (m : Memory) (row : List ℕ) (u : unit.Unit) (cost : Lis
       ex ∙ ap (λ (b : Bool). counted-if b cost) (eg ∙ ap (λ (y : judging.Judged). is-admitted (y .answer)) e)
       ∙ admits (judging.judge h m u cost (getD row 6 0) .answer) cost (cost-parts row cost ec) ∙ ap (amounts calls.admitted (calls.state-of h m)) k
 
+  -- on the watched unit's own record, unless the judgement was refused
+  pub judge-on : (watched : unit.Unit) (mine : Bool) (xs ys : List ℕ) (x : ℕ) → mine ≡ on-watched (m .rows .hashes) (m .rows .units) (h .tracked) (h .«unit_room») watched u → xs ≡ amounts calls.admitted (calls.state-of h m) (call-in row)
+      → ys ≡ counted-if mine xs → x ≡ judge-number (j .answer) → x ≡ 0 → ys ≡ amounts (calls.admitted-on (calls.own watched)) (calls.state-of h m) (call-in row)
+  unfolding amounts
+  judge-on watched mine xs ys x em ex ey en z =
+      ey ∙ ap (λ (b : Bool). counted-if b xs) (em ∙ watched-is h m u cost (getD row 6 0) watched (sym (ap (λ (y : judging.Judged). judge-number (y .answer)) e) ∙ sym en ∙ z))
+      ∙ ap (counted-if (calls.same-key (calls.own watched) (calls.key (calls.state-of h m) u (calls.now (calls.state-of h m) (getD row 6 0))))) (ex ∙ sym (ap (amounts calls.admitted (calls.state-of h m)) k))
+      ∙ on-parts (calls.same-key (calls.own watched) (calls.key (calls.state-of h m) u (calls.now (calls.state-of h m) (getD row 6 0)))) (λ (d : ℕ). calls.admitted d (calls.state-of h m) (Judge u cost (getD row 6 0)))
+      ∙ ap (amounts (calls.admitted-on (calls.own watched)) (calls.state-of h m)) k
+
   pub judge-hands : replicate dims 0 ≡ amounts calls.handed (calls.state-of h m) (call-in row)
   judge-hands = none calls.handed (calls.state-of h m) (Judge u cost (getD row 6 0)) (λ d. refl) ∙ ap (amounts calls.handed (calls.state-of h m)) k
 
@@ -156,6 +177,9 @@ module _ (h : Shedder) (m : Rows) (g : Hist) (l : List (List ℕ)) (row : List �
 
   pub cut-admits : replicate dims 0 ≡ amounts calls.admitted (calls.state-of h (memory m g l)) (call-in row)
   cut-admits = none calls.admitted (calls.state-of h (memory m g l)) (Cut u c cost) (λ d. refl) ∙ ap (amounts calls.admitted (calls.state-of h (memory m g l))) k
+
+  pub cut-on : (watched : unit.Unit) → replicate dims 0 ≡ amounts (calls.admitted-on (calls.own watched)) (calls.state-of h (memory m g l)) (call-in row)
+  cut-on watched = none (calls.admitted-on (calls.own watched)) (calls.state-of h (memory m g l)) (Cut u c cost) (λ d. refl) ∙ ap (amounts (calls.admitted-on (calls.own watched)) (calls.state-of h (memory m g l))) k
 
   pub cut-hands : (place : ℕ) (xs : List ℕ) → cost ≡ cost-in row → place ≡ index-of c → xs ≡ counted-if (eqb place 0) cost → xs ≡ amounts calls.handed (calls.state-of h (memory m g l)) (call-in row)
   unfolding amounts

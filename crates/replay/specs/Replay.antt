@@ -2,12 +2,13 @@
 use Prim.Native.Nat.{ℕ, zero, suc, _+_, _^_, _%_}
 use mathlib.Core.Bool.{Bool, true, false, cond}
 use mathlib.Core.List.{List, [], _∷_}
-use lib.Dec.{eqb}
+use lib.Dec.{eqb, ltb}
 use lib.ListN.{length, getD, replicate}
 use Rattle.flow.specs.Flow.{dims, upto}
 use Rattle.sender.specs.declared.Unit as unit
 use Rattle.sender.specs.declared.Words.{Words}
 use Rattle.sender.specs.Sender as sender
+use Rattle.store.specs.Store as store
 use Rattle.head.specs.declared.Answer.{Answer}
 use Rattle.head.specs.declared.Answer.the-variants as answer
 use Rattle.head.specs.declared.Cause.{Cause}
@@ -63,3 +64,16 @@ whole w first h = sum (by w) (length (events first h)) (events first h)
 -- and in each dimension, modulo 2^64
 unfoldable pub totals : (ℕ → State → Call → ℕ) → State → List Call → List ℕ
 totals w first h = upto (λ (d : ℕ). whole (w d) first h % 2 ^ 64) dims (replicate dims 0)
+
+-- ---- the watched unit
+-- whether a judgement uses the unit's own record: overflow has none; it is found among those tracked, or there is room to add it. Where a list is shorter than `tracked` the judgement is refused
+unfoldable pub own-used : List ℕ → List (List ℕ) → ℕ → ℕ → unit.Unit → Bool
+own-used hashes units tracked room u =
+    cond (sender.is-overflow u) false
+    (cond (ltb tracked room) true
+    (cond (ltb (length hashes) tracked) false
+    (cond (ltb (length units) tracked) false (ltb (store.find hashes units (sender.name-of u) tracked) tracked))))
+
+-- and whether that is the watched unit's
+unfoldable pub on-watched : List ℕ → List (List ℕ) → ℕ → ℕ → unit.Unit → unit.Unit → Bool
+on-watched hashes units tracked room watched u = cond (own-used hashes units tracked room u) (calls.same-name (sender.name-of watched) (sender.name-of u)) false

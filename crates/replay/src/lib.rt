@@ -106,11 +106,43 @@ fn counted_if(on: bool, cost: [u64; DIMS]) -> [u64; DIMS]
     [0u64; DIMS]
 }
 
-// What a call leaves, the number of its refusal (0 for none), and what it admits and hands back.
+// Whether a judgement of the unit uses the unit's own record: found, or added. False where the slices are shorter than the records in use: such a judgement is refused.
+fn uses_own(head: Shedder, hashes: &[u64], units: &[[u64; 7]], unit: Unit) -> bool
+    ensures { λ r. ⌜ r ≡ replay.own-used (now (hashes .entry)) (now (units .entry)) (head .tracked) (head .«unit_room») unit ⌝ }
+{
+    if sender::is_overflow(unit) {
+        return false;
+    }
+    if head.tracked < head.unit_room {
+        return true;
+    }
+    if hashes.len() < head.tracked {
+        return false;
+    }
+    if units.len() < head.tracked {
+        return false;
+    }
+    let name = sender::name_of(unit);
+    let i = store::find(hashes, units, head.tracked, name);
+    i < head.tracked
+}
+
+// Whether a judgement of the unit uses the watched unit's own record.
+fn on_watched(head: Shedder, hashes: &[u64], units: &[[u64; 7]], watched: Unit, unit: Unit) -> bool
+    ensures { λ r. ⌜ r ≡ replay.on-watched (now (hashes .entry)) (now (units .entry)) (head .tracked) (head .«unit_room») watched unit ⌝ }
+{
+    if uses_own(head, hashes, units, unit) {
+        return sender::same_unit(watched, unit);
+    }
+    false
+}
+
+// What a call leaves, the number of its refusal (0 for none), what it admits, what of that on the watched unit's own record, and what it hands back.
 struct Turned {
     head: Shedder,
     number: u64,
     admitted: [u64; DIMS],
+    admitted_on: [u64; DIMS],
     handed: [u64; DIMS],
 }
 
@@ -123,12 +155,14 @@ fn turn(
     counts: &mut [[u32; 768]; DIMS],
     sums: &mut [[f64; 768]; DIMS],
     counted: &mut [[u64; 8]],
+    watched: Unit,
     row: [u64; 7 + DIMS],
 ) -> Turned
     ensures { λ r. ⌜ calls.state-of (r .head) (judging.memory (store.rows (now (hashes .exit)) (now (units .exit)) (now (uses .exit))) (wants.hist (now (counts .exit)) (now (sums .exit))) (now (counted .exit))) ≡ calls.step (calls.state-of head (judging.memory (store.rows (now (hashes .entry)) (now (units .entry)) (now (uses .entry))) (wants.hist (now (counts .entry)) (now (sums .entry))) (now (counted .entry)))) (replay.call-in row) ⌝ }
     ensures { λ r. ⌜ r .number ≡ calls.number (calls.state-of head (judging.memory (store.rows (now (hashes .entry)) (now (units .entry)) (now (uses .entry))) (wants.hist (now (counts .entry)) (now (sums .entry))) (now (counted .entry)))) (replay.call-in row) ⌝ }
     ensures { λ r. ⌜ r .admitted ≡ replay.amounts calls.admitted (calls.state-of head (judging.memory (store.rows (now (hashes .entry)) (now (units .entry)) (now (uses .entry))) (wants.hist (now (counts .entry)) (now (sums .entry))) (now (counted .entry)))) (replay.call-in row) ⌝ }
     ensures { λ r. ⌜ r .handed ≡ replay.amounts calls.handed (calls.state-of head (judging.memory (store.rows (now (hashes .entry)) (now (units .entry)) (now (uses .entry))) (wants.hist (now (counts .entry)) (now (sums .entry))) (now (counted .entry)))) (replay.call-in row) ⌝ }
+    ensures { λ r. ⌜ (r .number ≡ 0 → r .«admitted_on» ≡ replay.amounts (calls.admitted-on (calls.own watched)) (calls.state-of head (judging.memory (store.rows (now (hashes .entry)) (now (units .entry)) (now (uses .entry))) (wants.hist (now (counts .entry)) (now (sums .entry))) (now (counted .entry)))) (replay.call-in row)) ⌝ }
 {
     let words = words_in(row);
     let unit = sender::unit_of(words);
@@ -136,6 +170,7 @@ fn turn(
     let which = row[0];
     let last = row[6];
     if which == 0 {
+        let mine = on_watched(head, hashes, units, watched, unit);
         let judged = shed::judge(
             head,
             hashes,
@@ -153,11 +188,13 @@ fn turn(
         let number = judge_number(answer);
         let goes = is_admitted(answer);
         let admitted = counted_if(goes, cost);
+        let admitted_on = counted_if(mine, admitted);
         let handed = [0u64; DIMS];
         return Turned {
             head: left,
             number,
             admitted,
+            admitted_on,
             handed,
         };
     }
@@ -170,10 +207,12 @@ fn turn(
         let place = head::index_of(cause);
         let handed = counted_if(place == 0, cost);
         let admitted = [0u64; DIMS];
+        let admitted_on = [0u64; DIMS];
         return Turned {
             head: left,
             number,
             admitted,
+            admitted_on,
             handed,
         };
     }
@@ -184,6 +223,7 @@ fn turn(
         head,
         number,
         admitted: none,
+        admitted_on: none,
         handed: none,
     }
 }
@@ -205,6 +245,8 @@ fn sums(xs: [u64; DIMS], ys: [u64; DIMS]) -> [u64; DIMS]
 pub struct Replayed {
     pub head: Shedder,
     pub admitted: [u64; DIMS],
+    // of that, on the watched unit's own record
+    pub admitted_on: [u64; DIMS],
     pub handed: [u64; DIMS],
     pub taken: u64,
 }
@@ -215,19 +257,24 @@ fn after(run: Replayed, t: Turned) -> Replayed
     ensures { λ r. ⌜ r .admitted ≡ cond (eqb (t .number) 0) (replay.sums (run .admitted) (t .admitted)) (run .admitted) ⌝ }
     ensures { λ r. ⌜ r .handed ≡ cond (eqb (t .number) 0) (replay.sums (run .handed) (t .handed)) (run .handed) ⌝ }
     ensures { λ r. ⌜ r .taken ≡ cond (eqb (t .number) 0) ((run .taken + 1) % 2 ^ 64) (run .taken) ⌝ }
+    ensures { λ r. ⌜ r .«admitted_on» ≡ cond (eqb (t .number) 0) (replay.sums (run .«admitted_on») (t .«admitted_on»)) (run .«admitted_on») ⌝ }
 {
     let head = t.head;
     let admitted = run.admitted;
+    let admitted_on = run.admitted_on;
     let handed = run.handed;
     if t.number == 0 {
         let more = t.admitted;
+        let more_on = t.admitted_on;
         let back = t.handed;
         let admits = sums(admitted, more);
+        let admits_on = sums(admitted_on, more_on);
         let hands = sums(handed, back);
         let taken = std::num::wrapping_add_u64(run.taken, 1);
         return Replayed {
             head,
             admitted: admits,
+            admitted_on: admits_on,
             handed: hands,
             taken,
         };
@@ -235,6 +282,7 @@ fn after(run: Replayed, t: Turned) -> Replayed
     Replayed {
         head,
         admitted,
+        admitted_on,
         handed,
         taken: run.taken,
     }
@@ -249,6 +297,7 @@ pub fn replay(
     counts: &mut [[u32; 768]; DIMS],
     sums: &mut [[f64; 768]; DIMS],
     counted: &mut [[u64; 8]],
+    watched: Unit,
     list: &[[u64; 7 + DIMS]],
 ) -> Replayed
     ensures { λ r. ⌜ calls.state-of (r .head) (judging.memory (store.rows (now (hashes .exit)) (now (units .exit)) (now (uses .exit))) (wants.hist (now (counts .exit)) (now (sums .exit))) (now (counted .exit))) ≡ calls.state (calls.state-of head (judging.memory (store.rows (now (hashes .entry)) (now (units .entry)) (now (uses .entry))) (wants.hist (now (counts .entry)) (now (sums .entry))) (now (counted .entry)))) (replay.calls-in (now (list .entry)) (length (now (list .entry)))) ⌝ }
@@ -256,11 +305,14 @@ pub fn replay(
     ensures { λ r. ⌜ r .handed ≡ replay.totals calls.handed (calls.state-of head (judging.memory (store.rows (now (hashes .entry)) (now (units .entry)) (now (uses .entry))) (wants.hist (now (counts .entry)) (now (sums .entry))) (now (counted .entry)))) (replay.calls-in (now (list .entry)) (length (now (list .entry)))) ⌝ }
     ensures { λ r. ⌜ r .taken ≡ length (calls.events (calls.state-of head (judging.memory (store.rows (now (hashes .entry)) (now (units .entry)) (now (uses .entry))) (wants.hist (now (counts .entry)) (now (sums .entry))) (now (counted .entry)))) (replay.calls-in (now (list .entry)) (length (now (list .entry))))) % 2 ^ 64 ⌝ }
     ensures { λ r. ⌜ bounds.Relay (calls.state-of head (judging.memory (store.rows (now (hashes .entry)) (now (units .entry)) (now (uses .entry))) (wants.hist (now (counts .entry)) (now (sums .entry))) (now (counted .entry)))) (replay.calls-in (now (list .entry)) (length (now (list .entry)))) (r .admitted) ⌝ }
+    ensures { λ r. ⌜ r .«admitted_on» ≡ replay.totals (calls.admitted-on (calls.own watched)) (calls.state-of head (judging.memory (store.rows (now (hashes .entry)) (now (units .entry)) (now (uses .entry))) (wants.hist (now (counts .entry)) (now (sums .entry))) (now (counted .entry)))) (replay.calls-in (now (list .entry)) (length (now (list .entry)))) ⌝ }
+    ensures { λ r. ⌜ bounds.Share watched (calls.state-of head (judging.memory (store.rows (now (hashes .entry)) (now (units .entry)) (now (uses .entry))) (wants.hist (now (counts .entry)) (now (sums .entry))) (now (counted .entry)))) (replay.calls-in (now (list .entry)) (length (now (list .entry)))) (r .«admitted_on») ⌝ }
 {
     let none = [0u64; DIMS];
     let mut run = Replayed {
         head,
         admitted: none,
+        admitted_on: none,
         handed: none,
         taken: 0,
     };
@@ -268,7 +320,17 @@ pub fn replay(
     while i < list.len() {
         let row = list[i];
         let held = run.head;
-        let turned = turn(held, hashes, units, uses, counts, sums, counted, row);
+        let turned = turn(
+            held,
+            hashes,
+            units,
+            uses,
+            counts,
+            sums,
+            counted,
+            watched,
+            row,
+        );
         run = after(run, turned);
         i += 1;
     }

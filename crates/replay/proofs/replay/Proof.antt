@@ -6,27 +6,28 @@ use lib.ListN.{length}
 use Rattle.store.specs.Store.{rows}
 use Rattle.wants.specs.Wants.{hist}
 use Rattle.shed.specs.Judging.{memory}
-use Rattle.fair.specs.Calls.{state-of, state, events, admitted, handed}
+use Rattle.fair.specs.Calls.{state-of, state, events, admitted, handed, own, admitted-on}
 use Rattle.replay.specs.Replay.{calls-in, totals}
 use Rattle.replay.proofs.Turning.{headed, run-none, run-next}
 use Rattle.replay.proofs.Totals.{totals-none, totals-next, taken-none, taken-next}
-use Rattle.replay.proofs.Bounds.{relay-of}
+use Rattle.replay.proofs.Bounds.{relay-of, share-of}
 use Rattle.replay.proofs.replay.Statement.{statement}
 use Rattle.replay.proofs.replay.Tie as tie
 
 abbrev Inv-loop : tie.InvT-loop
-Inv-loop hashes₀ units₀ uses₀ counts₀ sums₀ counted₀ list run₀ i₀ hashes units uses counts sums counted run i =
+Inv-loop hashes₀ units₀ uses₀ counts₀ sums₀ counted₀ watched list run₀ i₀ hashes units uses counts sums counted run i =
     (i ≤ length list) × (state-of (run .head) (memory (rows hashes units uses) (hist counts sums) counted) ≡ state (state-of (run₀ .head) (memory (rows hashes₀ units₀ uses₀) (hist counts₀ sums₀) counted₀)) (calls-in list i))
     × (length hashes ≡ length hashes₀) × (length units ≡ length units₀) × (length uses ≡ length uses₀) × (length counted ≡ length counted₀)
     × (run .admitted ≡ totals admitted (state-of (run₀ .head) (memory (rows hashes₀ units₀ uses₀) (hist counts₀ sums₀) counted₀)) (calls-in list i)) × (run .handed ≡ totals handed (state-of (run₀ .head) (memory (rows hashes₀ units₀ uses₀) (hist counts₀ sums₀) counted₀)) (calls-in list i))
     × (run .taken ≡ length (events (state-of (run₀ .head) (memory (rows hashes₀ units₀ uses₀) (hist counts₀ sums₀) counted₀)) (calls-in list i)) % 2 ^ 64)
+    × (run .«admitted_on» ≡ totals (admitted-on (own watched)) (state-of (run₀ .head) (memory (rows hashes₀ units₀ uses₀) (hist counts₀ sums₀) counted₀)) (calls-in list i))
 
 abbrev μ-loop : tie.MeasureT-loop
-μ-loop hashes₀ units₀ uses₀ counts₀ sums₀ counted₀ list run₀ i₀ hashes units uses counts sums counted run i =
+μ-loop hashes₀ units₀ uses₀ counts₀ sums₀ counted₀ watched list run₀ i₀ hashes units uses counts sums counted run i =
     length list - i
 
 loop-holds : tie.Need-loop-holds Inv-loop μ-loop
-loop-holds c = (search needs, run-none _ _, refl, refl, refl, refl, totals-none _ _ _, totals-none _ _ _, taken-none _ _)
+loop-holds c = (search needs, run-none _ _, refl, refl, refl, refl, totals-none _ _ _, totals-none _ _ _, taken-none _ _, totals-none _ _ _)
 
 mul-row : tie.Need-mul-row Inv-loop μ-loop
 mul-row c = search needs
@@ -54,9 +55,10 @@ loop-again c = (
   c .before .before .before .before .before .before .turn .kept .1 .1 .0 ∙ c .before .before .before .before .before .before .before .before .before .before .before .before .before .before .before .before .loop .inv .3,
   c .before .before .before .before .before .before .turn .kept .1 .1 .1 .0 ∙ c .before .before .before .before .before .before .before .before .before .before .before .before .before .before .before .before .loop .inv .4,
   c .before .before .before .before .before .before .turn .kept .1 .1 .1 .1 .1 .1 .0 ∙ c .before .before .before .before .before .before .before .before .before .before .before .before .before .before .before .before .loop .inv .5,
-  totals-next admitted _ _ _ _ _ _ _ _ (c .before .before .before .before .before .before .before .before .before .before .before .before .before .before .before .before .loop .inv .1) (c .before .before .before .before .before .before .turn .ensures .1 .0) (c .before .before .before .before .before .before .turn .ensures .1 .1 .0) (c .before .before .before .before .before .before .before .before .before .before .before .before .before .before .before .before .loop .inv .6) (c .after .ensures .1 .0),
-  totals-next handed _ _ _ _ _ _ _ _ (c .before .before .before .before .before .before .before .before .before .before .before .before .before .before .before .before .loop .inv .1) (c .before .before .before .before .before .before .turn .ensures .1 .0) (c .before .before .before .before .before .before .turn .ensures .1 .1 .1) (c .before .before .before .before .before .before .before .before .before .before .before .before .before .before .before .before .loop .inv .7) (c .after .ensures .1 .1 .0),
-  taken-next _ _ _ _ _ _ _ (c .before .before .before .before .before .before .before .before .before .before .before .before .before .before .before .before .loop .inv .1) (c .before .before .before .before .before .before .turn .ensures .1 .0) (c .before .before .before .before .before .before .before .before .before .before .before .before .before .before .before .before .loop .inv .8) (c .after .ensures .1 .1 .1),
+  totals-next admitted _ _ _ _ _ _ _ _ (c .before .before .before .before .before .before .before .before .before .before .before .before .before .before .before .before .loop .inv .1) (c .before .before .before .before .before .before .turn .ensures .1 .0) (λ z. c .before .before .before .before .before .before .turn .ensures .1 .1 .0) (c .before .before .before .before .before .before .before .before .before .before .before .before .before .before .before .before .loop .inv .6) (c .after .ensures .1 .0),
+  totals-next handed _ _ _ _ _ _ _ _ (c .before .before .before .before .before .before .before .before .before .before .before .before .before .before .before .before .loop .inv .1) (c .before .before .before .before .before .before .turn .ensures .1 .0) (λ z. c .before .before .before .before .before .before .turn .ensures .1 .1 .1 .0) (c .before .before .before .before .before .before .before .before .before .before .before .before .before .before .before .before .loop .inv .7) (c .after .ensures .1 .1 .0),
+  taken-next _ _ _ _ _ _ _ (c .before .before .before .before .before .before .before .before .before .before .before .before .before .before .before .before .loop .inv .1) (c .before .before .before .before .before .before .turn .ensures .1 .0) (c .before .before .before .before .before .before .before .before .before .before .before .before .before .before .before .before .loop .inv .8) (c .after .ensures .1 .1 .1 .0),
+  totals-next (admitted-on (own _)) _ _ _ _ _ _ _ _ (c .before .before .before .before .before .before .before .before .before .before .before .before .before .before .before .before .loop .inv .1) (c .before .before .before .before .before .before .turn .ensures .1 .0) (c .before .before .before .before .before .before .turn .ensures .1 .1 .1 .1) (c .before .before .before .before .before .before .before .before .before .before .before .before .before .before .before .before .loop .inv .9) (c .after .ensures .1 .1 .1 .1),
 )
 
 same-length : tie.Need-same-length Inv-loop μ-loop
@@ -74,7 +76,7 @@ same-length-4 c = c .before .loop .inv .5
 returns : tie.Need-returns Inv-loop μ-loop
 returns c =
     let e : c .before .loop .i ≡ length (c .before .before .before .args .list .now) = omega arith in
-    (rw e at (c .before .loop .inv .1), (rw e at (c .before .loop .inv .6), (rw e at (c .before .loop .inv .7), (rw e at (c .before .loop .inv .8), relay-of _ _ _ (rw e at (c .before .loop .inv .6))))))
+    (rw e at (c .before .loop .inv .1), (rw e at (c .before .loop .inv .6), (rw e at (c .before .loop .inv .7), (rw e at (c .before .loop .inv .8), (relay-of _ _ _ (rw e at (c .before .loop .inv .6)), (rw e at (c .before .loop .inv .9), share-of _ _ _ _ (rw e at (c .before .loop .inv .9))))))))
 
 pub replay-spec : {M : Type 1} → statement M
 replay-spec =

@@ -1,7 +1,7 @@
 use mathlib.Core.Path.{refl}
 use borrow.Author.Tests.{eq-eqb, ne-eqb}
 use Rattle.replay.proofs.Turning.{turn-judge, turn-cut, turn-else, row-judge, row-cut, row-else}
-use Rattle.replay.proofs.Totals.{judge-number-is, judge-admits, judge-hands, cut-number-is, cut-admits, cut-hands, read-number-is, read-none}
+use Rattle.replay.proofs.Totals.{judge-number-is, judge-admits, judge-on, judge-hands, cut-number-is, cut-admits, cut-on, cut-hands, read-number-is, read-none}
 use borrow.Author.Needs.{needs}
 use Rattle.replay.proofs.turn.Statement.{statement}
 use Rattle.replay.proofs.turn.Tie as tie
@@ -21,6 +21,9 @@ array-read-which c = search needs
 array-read-last : tie.Need-array-read-last
 array-read-last c = search needs
 
+on-watched-requires : tie.Need-on-watched-requires
+on-watched-requires c κs = search needs
+
 judge-requires : tie.Need-judge-requires
 judge-requires c κs = search needs
 
@@ -32,6 +35,9 @@ is-admitted-requires c κs = search needs
 
 counted-if-requires : tie.Need-counted-if-requires
 counted-if-requires c κs = search needs
+
+counted-if-requires-2 : tie.Need-counted-if-requires-2
+counted-if-requires-2 c κs = search needs
 
 same-length : tie.Need-same-length
 same-length c = search needs
@@ -47,13 +53,17 @@ same-length-4 c = search needs
 
 returns : tie.Need-returns
 returns c =
-    let k = row-judge _ _ _ _ (c .before .before .before .before .before .before .before .before .before .before .before .before .before .before .before .before .before .before .before .words-in .ensures) (c .before .before .before .before .before .before .before .before .before .before .before .before .before .before .before .before .before .before .unit-of .ensures) (c .before .before .before .before .before .before .before .before .before .before .before .before .before .before .before .before .before .cost-in .ensures) (eq-eqb _ 0 (c .before .before .before .before .before .before .before .before .before .before .before .before .before .before .before .before .if1 .taken)) in (
-      turn-judge _ _ _ _ _ _ _ _ (c .before .before .before .before .before .before .before .before .before .before .before .before .before .before .before .before .before .before .before .words-in .ensures) (c .before .before .before .before .before .before .before .before .before .before .before .before .before .before .before .before .before .before .unit-of .ensures) (c .before .before .before .before .before .before .before .before .before .before .before .before .before .before .before .before .before .cost-in .ensures) (eq-eqb _ 0 (c .before .before .before .before .before .before .before .before .before .before .before .before .before .before .before .before .if1 .taken)) (c .before .before .before .before .before .before .before .before .before .judge .ensures .0),
+    let k = row-judge _ _ _ _ (c .before .before .before .before .before .before .before .before .before .before .before .before .before .before .before .before .before .before .before .before .before .before .before .words-in .ensures) (c .before .before .before .before .before .before .before .before .before .before .before .before .before .before .before .before .before .before .before .before .before .before .unit-of .ensures) (c .before .before .before .before .before .before .before .before .before .before .before .before .before .before .before .before .before .before .before .before .before .cost-in .ensures) (eq-eqb _ 0 (c .before .before .before .before .before .before .before .before .before .before .before .before .before .before .before .before .before .before .before .before .if1 .taken)) in
+    let a = judge-admits _ _ _ _ _ _ _ k (c .before .before .before .before .before .before .before .before .before .before .judge .ensures .0) _ _ (c .before .before .before .before .before .before .before .before .before .before .before .before .before .before .before .before .before .before .before .before .before .cost-in .ensures) (c .before .before .is-admitted .ensures) (c .before .counted-if .ensures) in (
+      turn-judge _ _ _ _ _ _ _ _ (c .before .before .before .before .before .before .before .before .before .before .before .before .before .before .before .before .before .before .before .before .before .before .before .words-in .ensures) (c .before .before .before .before .before .before .before .before .before .before .before .before .before .before .before .before .before .before .before .before .before .before .unit-of .ensures) (c .before .before .before .before .before .before .before .before .before .before .before .before .before .before .before .before .before .before .before .before .before .cost-in .ensures) (eq-eqb _ 0 (c .before .before .before .before .before .before .before .before .before .before .before .before .before .before .before .before .before .before .before .before .if1 .taken)) (c .before .before .before .before .before .before .before .before .before .before .judge .ensures .0),
       (
-        judge-number-is _ _ _ _ _ _ _ k (c .before .before .before .before .before .before .before .before .before .judge .ensures .0) _ (c .before .before .judge-number .ensures),
+        judge-number-is _ _ _ _ _ _ _ k (c .before .before .before .before .before .before .before .before .before .before .judge .ensures .0) _ (c .before .before .before .judge-number .ensures),
         (
-          judge-admits _ _ _ _ _ _ _ k (c .before .before .before .before .before .before .before .before .before .judge .ensures .0) _ _ (c .before .before .before .before .before .before .before .before .before .before .before .before .before .before .before .before .before .cost-in .ensures) (c .before .is-admitted .ensures) (c .counted-if .ensures),
-          judge-hands _ _ _ _ _ _ _ k (c .before .before .before .before .before .before .before .before .before .judge .ensures .0),
+          a,
+          (
+            judge-hands _ _ _ _ _ _ _ k (c .before .before .before .before .before .before .before .before .before .before .judge .ensures .0),
+            (λ z. judge-on _ _ _ _ _ _ _ k (c .before .before .before .before .before .before .before .before .before .before .judge .ensures .0) _ _ _ _ _ (c .before .before .before .before .before .before .before .before .before .before .before .before .before .before .before .before .before .on-watched .ensures) a (c .counted-if2 .ensures) (c .before .before .before .judge-number .ensures) z),
+          ),
         ),
       ),
     )
@@ -70,8 +80,8 @@ cut-number-requires c κs = search needs
 index-of-requires : tie.Need-index-of-requires
 index-of-requires c κs = search needs
 
-counted-if-requires-2 : tie.Need-counted-if-requires-2
-counted-if-requires-2 c κs = search needs
+counted-if-requires-3 : tie.Need-counted-if-requires-3
+counted-if-requires-3 c κs = search needs
 
 same-length-5 : tie.Need-same-length-5
 same-length-5 c = search needs
@@ -93,7 +103,10 @@ returns-2 c =
         cut-number-is _ _ _ _ _ _ _ _ _ _ _ k (c .before .before .before .before .before .before .before .before .before .cut .ensures .0) _ (c .before .before .cut-number .ensures),
         (
           cut-admits _ _ _ _ _ _ _ _ _ _ _ k (c .before .before .before .before .before .before .before .before .before .cut .ensures .0),
-          cut-hands _ _ _ _ _ _ _ _ _ _ _ k (c .before .before .before .before .before .before .before .before .before .cut .ensures .0) _ _ (c .before .before .before .before .before .before .before .before .before .before .before .before .before .before .before .before .before .cost-in .ensures) (c .before .index-of .ensures .0) (c .counted-if2 .ensures),
+          (
+            cut-hands _ _ _ _ _ _ _ _ _ _ _ k (c .before .before .before .before .before .before .before .before .before .cut .ensures .0) _ _ (c .before .before .before .before .before .before .before .before .before .before .before .before .before .before .before .before .before .cost-in .ensures) (c .before .index-of .ensures .0) (c .counted-if3 .ensures),
+            (λ z. cut-on _ _ _ _ _ _ _ _ _ _ _ k (c .before .before .before .before .before .before .before .before .before .cut .ensures .0) _),
+          ),
         ),
       ),
     )
@@ -106,8 +119,19 @@ reading-number-requires c κs = search needs
 
 returns-3 : tie.Need-returns-3
 returns-3 c =
-    let k = row-else _ (ne-eqb _ 0 (c .before .before .before .if1 .left)) (ne-eqb _ 1 (c .before .before .if2 .left)) in
-    (turn-else _ _ _ (ne-eqb _ 0 (c .before .before .before .if1 .left)) (ne-eqb _ 1 (c .before .before .if2 .left)), (read-number-is _ _ _ k _ _ (c .before .visited .ensures .0) (c .reading-number .ensures), (read-none _ _ _ k _ (λ d. refl), read-none _ _ _ k _ (λ d. refl))))
+    let k = row-else _ (ne-eqb _ 0 (c .before .before .before .if1 .left)) (ne-eqb _ 1 (c .before .before .if2 .left)) in (
+      turn-else _ _ _ (ne-eqb _ 0 (c .before .before .before .if1 .left)) (ne-eqb _ 1 (c .before .before .if2 .left)),
+      (
+        read-number-is _ _ _ k _ _ (c .before .visited .ensures .0) (c .reading-number .ensures),
+        (
+          read-none _ _ _ k _ (λ d. refl),
+          (
+            read-none _ _ _ k _ (λ d. refl),
+            (λ z. read-none _ _ _ k _ (λ d. refl)),
+          ),
+        ),
+      ),
+    )
 
 pub turn-spec : {M : Type 1} → statement M
 turn-spec =
@@ -118,10 +142,12 @@ turn-spec =
     cost-in-requires
     array-read-which
     array-read-last
+    on-watched-requires
     judge-requires
     judge-number-requires
     is-admitted-requires
     counted-if-requires
+    counted-if-requires-2
     same-length
     same-length-2
     same-length-3
@@ -131,7 +157,7 @@ turn-spec =
     cut-requires
     cut-number-requires
     index-of-requires
-    counted-if-requires-2
+    counted-if-requires-3
     same-length-5
     same-length-6
     same-length-7
