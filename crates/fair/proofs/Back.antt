@@ -1,22 +1,22 @@
 -- What is put is read back: a use put at a place, and a record added at the end. Assumes nothing.
 use mathlib.Core.Path.{_≡_, refl, sym, ap, _∙_}
-use Prim.Native.Nat.{ℕ, zero, suc, _+_, _-_, _≤_, _<_}
+use Prim.Native.Nat.{ℕ, _+_, _-_, _<_}
 use native.Mathlib.Omega.{arith}
-use mathlib.Core.Bool.{Bool, true, false, cond, not}
+use mathlib.Core.Bool.{Bool, true, false, not}
 use mathlib.Core.List.{List, [], _∷_, _++_}
-use lib.Dec.{eqb, ltb}
+use lib.Dec.{eqb}
 use lib.Ieee.{Float, nan}
 use lib.ListN.{length, getD, set, length-set, replicate, length-replicate}
 use lib.Seq.{getD-set-same, getD-set-other, ext-getD}
 use borrow.Author.Tests.{lt-ltb, le-ltb}
 use Rattle.flow.specs.declared.Use.{Use}
-use Rattle.flow.specs.Flow.{upto, at, nothing}
+use Rattle.flow.specs.Flow.{at, nothing}
 use Rattle.flow.proofs.Parts.{upto-at, upto-length}
 use Rattle.sender.specs.declared.Words.{Words}
 use Rattle.sender.specs.declared.Name.{Name}
 use Rattle.store.specs.Store.{Rows, rows, dims, part, picked, joined, mark, unit-row, words-at, use-at, units-put, uses-put, added}
 use Rattle.fair.proofs.View as view
-use Rattle.fair.proofs.Sweep.{Same, Wide}
+use Rattle.fair.proofs.Sweep.{Same}
 use Rattle.fair.proofs.Sweep as pass
 
 -- ---- floats

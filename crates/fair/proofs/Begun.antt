@@ -1,15 +1,14 @@
 -- What a start at bounded rates leaves is tied to the model's first store, and every fill is lawful. Assumes nothing.
 use mathlib.Core.Path.{_≡_, refl, sym, ap, _∙_, subst}
-use Prim.Native.Nat.{ℕ, zero, suc, _+_, _*_, _^_, _≤_, _<_, min, max}
+use Prim.Native.Nat.{ℕ, _*_, _^_, _≤_, _<_}
 use native.Mathlib.Nat.{le-refl, le-of-eq, le-trans, mul-le-mul-right}
 use native.Mathlib.Omega.{arith}
-use mathlib.Core.Bool.{Bool, true, false, cond, true≢false}
-use mathlib.Core.List.{List, [], _∷_}
-use lib.Dec.{eqb, leb}
+use mathlib.Core.Bool.{Bool, true, false}
+use mathlib.Core.List.{List, []}
+use lib.Dec.{eqb}
 use lib.ListN.{length, getD, replicate, length-replicate}
-use lib.Ieee as Ieee
 use lib.Ieee.{Float, nan, binary64, ofBits, ofInt}
-use Rattle.ieee.specs.Units.{power, units, Amount, Is}
+use Rattle.ieee.specs.Units.{power, units, Amount}
 use Rattle.ieee.proofs.Power.{power-is, power-times}
 use Rattle.ieee.proofs.Laws.{int-is}
 use Rattle.flow.specs.Flow as flow
@@ -22,10 +21,10 @@ use Rattle.wants.specs.Wants as wants
 use Rattle.head.specs.declared.Shedder.{Shedder}
 use Rattle.head.specs.declared.Begin.the-variants as begin
 use Rattle.fair.specs.Given as shed
-use Rattle.fair.specs.Given.{Memory, memory}
+use Rattle.fair.specs.Given.{Memory}
 use Rattle.fair.specs.Store as model
 use Rattle.fair.specs.Calls as calls
-use Rattle.fair.proofs.Floats.{least-is}
+use Rattle.ieee.proofs.Extremes.{least-is}
 use Rattle.fair.proofs.Level as lvl
 use Rattle.fair.proofs.Level.{Level, finite}
 use Rattle.fair.proofs.View as view

@@ -1,6 +1,6 @@
 -- What `flow::judged` computes is what the demand's model does at a judgement of the record. Assumes nothing.
-use mathlib.Core.Path.{_≡_, refl, sym, ap, _∙_, subst}
-use Prim.Native.Nat.{ℕ, _-_, _<_, _≤_, max}
+use mathlib.Core.Path.{_≡_, refl, ap, _∙_}
+use Prim.Native.Nat.{ℕ, _-_, _<_, max}
 use mathlib.Core.Bool.{Bool, true, false}
 use mathlib.Core.List.{List}
 use lib.ListN.{length, replicate, length-replicate}
@@ -14,7 +14,7 @@ use Rattle.flow.specs.Flow as flow
 use Rattle.flow.specs.Flow.{dims, nothing, whole, at, bucket-at, all}
 use Rattle.flow.proofs.Parts.{upto-length, each-at, buckets-at, all-same}
 use Rattle.fair.specs.Tokens.{paid}
-use Rattle.fair.specs.Demand.{Batch, Here, Kept, present, State, found, priced, filled, verdict-here, is-admitted, settled, does}
+use Rattle.fair.specs.Demand.{Batch, Here, present, State, found, priced, filled, verdict-here, is-admitted, settled, does}
 
 module _ (s : State) (bs : List Bucket) (clk t : ℕ) (cost : ℕ → ℕ) (fill level : List Float) (rank : Float) (long : length bs ≡ dims) (same : (d : ℕ) → d < dims → bucket-at bs d ≡ s .bucket d) where
   abbrev now : ℕ

@@ -1,6 +1,6 @@
 -- DEMAND 3, of every list of calls: each call that is not refused is the model's call, so the model's demand is the real one. Assumes nothing.
 use mathlib.Core.Path.{_≡_, refl, sym, ap, _∙_, subst}
-use Prim.Native.Nat.{ℕ, zero, suc, _+_, _-_, _*_, _^_, _≤_, _<_, max}
+use Prim.Native.Nat.{ℕ, suc, _+_, _-_, _*_, _≤_, _<_, max}
 use native.Mathlib.Omega.{arith}
 use mathlib.Core.Bool.{Bool, true, false, cond, true≢false}
 use mathlib.Core.List.{List, [], _∷_}
@@ -8,7 +8,6 @@ use lib.Dec.{T, eqb, ltb}
 use lib.ListN.{length, getD}
 use lib.Ieee as Ieee
 use lib.Ieee.{Float}
-use borrow.Author.Tests.{eqb-true}
 use Rattle.ieee.specs.Units.{power, units}
 use Rattle.flow.specs.Flow.{dims, one, at}
 use Rattle.flow.specs.declared.Use.{Use}
@@ -23,10 +22,9 @@ use Rattle.head.specs.declared.Answer.the-variants as answer
 use Rattle.head.specs.declared.Cause.{Cause}
 use Rattle.head.specs.declared.Cause.the-variants as cause
 use Rattle.head.specs.declared.Done.the-variants as done
-use Rattle.head.specs.declared.Begin.the-variants as begin
 use Rattle.fair.specs.Given as shed
 use Rattle.fair.specs.Given.{Memory, memory}
-use Rattle.fair.specs.Runs.{sum, highest, lowest, Since, clock, back, Each}
+use Rattle.fair.specs.Runs.{sum, highest, lowest, clock, back, Each}
 use Rattle.fair.specs.Tokens.{burst}
 use Rattle.fair.specs.Demand as demand
 use Rattle.fair.specs.Demand.{verdict-here, is-admitted}

@@ -1,10 +1,10 @@
 -- A cut that is not refused: the real state after it is tied to the model's store after the model's cut, or after a call that does nothing. Assumes nothing.
 use mathlib.Core.Path.{_≡_, refl, sym, ap, _∙_, subst}
-use Prim.Native.Nat.{ℕ, zero, suc, _+_, _-_, _^_, _≤_, _<_, max}
+use Prim.Native.Nat.{ℕ, _-_, _^_, _≤_, _<_}
 use native.Mathlib.Nat.{le-refl, le-of-eq, le-trans}
 use native.Mathlib.Omega.{arith}
-use mathlib.Core.Bool.{Bool, true, false, cond, true≢false}
-use mathlib.Core.List.{List, [], _∷_}
+use mathlib.Core.Bool.{Bool, true, false, true≢false}
+use mathlib.Core.List.{List}
 use lib.Dec.{eqb, ltb}
 use lib.ListN.{length, getD}
 use lib.Ieee.{Float}
@@ -17,19 +17,17 @@ use Rattle.sender.specs.declared.Unit as unit
 use Rattle.sender.specs.Sender as sender
 use Rattle.store.specs.Store.{Rows, rows}
 use Rattle.head.specs.declared.Shedder.{Shedder}
-use Rattle.head.specs.declared.Flow.{Flow}
 use Rattle.head.specs.declared.Cause.{Cause}
 use Rattle.head.specs.declared.Cause.the-variants as cause
 use Rattle.head.specs.declared.Done.the-variants as done
 use Rattle.fair.specs.Given as shed
-use Rattle.fair.specs.Given.{Memory, memory}
+use Rattle.fair.specs.Given.{Memory}
 use Rattle.head.proofs.Asked.{cut-ready}
 use Rattle.fair.specs.Store as model
 use Rattle.fair.specs.Demand as demand
 use Rattle.fair.specs.Demand.{present, does, priced}
 use Rattle.fair.specs.Calls as calls
 use Rattle.fair.proofs.View.{Name, same, shares, name-of}
-use Rattle.fair.proofs.Back.{Whole}
 use Rattle.fair.proofs.Entry as entry
 use Rattle.fair.proofs.Entry.{Held, Placed}
 use Rattle.fair.proofs.Tied.{Tied, Bound}

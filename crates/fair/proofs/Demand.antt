@@ -1,27 +1,25 @@
 -- Demand 3 over all dimensions, from the claims on one bucket and on one record in one dimension: each history is seen as one of theirs. Assumes nothing.
 use mathlib.Core.Path.{_≡_, refl, sym, ap, _∙_, subst}
-use Prim.Native.Nat.{ℕ, zero, suc, _+_, _-_, _*_, _^_, _≤_, _<_, min, max}
-use native.Mathlib.Omega.{arith}
+use Prim.Native.Nat.{ℕ, suc, _+_, _-_, _*_, _^_, _≤_, _<_, max}
 use mathlib.Core.Bool.{Bool, true, false, _&&_, cond, true≢false}
 use mathlib.Core.List.{List, [], _∷_}
 use lib.Dec.{T, ltb, lit<}
 use lib.ListN.{length, replicate, length-replicate, getD-replicate}
 use lib.Ieee as Ieee
 use lib.Ieee.{Float, nan}
-use Rattle.ieee.specs.Units.{power, units, Amount}
-use Rattle.ieee.proofs.Order.{passed}
+use Rattle.ieee.specs.Units.{power}
 use Rattle.flow.specs.declared.Bucket.{Bucket}
 use Rattle.flow.specs.declared.Use.{Use}
 use Rattle.flow.specs.declared.Verdict.{Verdict}
 use Rattle.flow.specs.declared.Verdict.the-variants.{Admitted, OverShare, RelayRate}
 use Rattle.flow.specs.Flow as flow
-use Rattle.flow.specs.Flow.{dims, one, nothing, whole, at, each, all, pick}
+use Rattle.flow.specs.Flow.{dims, one, nothing, whole, at, pick}
 use Rattle.flow.proofs.Parts.{upto-length, each-at, all-at, all-of}
 use Rattle.fair.specs.Runs.{sum, highest, lowest, clock, back, Each}
 use Rattle.fair.specs.Tokens as tokens
 use Rattle.fair.specs.Credit as credit
 use Rattle.fair.specs.Demand as demand
-use Rattle.fair.specs.Demand.{Batch, Deed, Here, There, Cut, CutThere, Idle, stamp, Lawful, Kept, absent, present, State, priced, filled, credited, tokens-hold, credit-holds, verdict-here, verdict-there, is-admitted, settled, does, origin, state, span, Demand, Claim}
+use Rattle.fair.specs.Demand.{Batch, Deed, Here, There, Cut, CutThere, Idle, stamp, Lawful, Kept, absent, present, State, priced, filled, credited, tokens-hold, credit-holds, verdict-here, verdict-there, is-admitted, settled, origin, state, span, Claim}
 use Rattle.fair.proofs.Runs.{shown, sum-shown, highest-shown, lowest-shown, since-shown, clock-shown, back-shown, each-shown}
 use Rattle.fair.proofs.Tokens.{tokens-claim}
 use Rattle.fair.proofs.Credit.{credit-claim}

@@ -1,10 +1,9 @@
 -- The record that a call uses, and what putting its use back leaves: those of the model. Assumes nothing.
 use mathlib.Core.Path.{_≡_, refl, sym, ap, _∙_, subst}
-use Prim.Native.Nat.{ℕ, zero, suc, _+_, _≤_, _<_}
-use native.Mathlib.Numerals.{add-one}
+use Prim.Native.Nat.{ℕ, _+_, _≤_, _<_}
 use native.Mathlib.Omega.{arith}
 use native.Mathlib.Decide.{ℕ-discrete}
-use mathlib.Core.Bool.{Bool, true, false, cond, true≢false}
+use mathlib.Core.Bool.{Bool, true, false}
 use mathlib.Core.List.{List, [], _∷_, _++_}
 use lib.Dec.{ltb}
 use lib.ListN.{length, getD, set, length-set, length-replicate}
@@ -19,7 +18,7 @@ use Rattle.sender.specs.declared.Name as sender-name
 use Rattle.sender.specs.declared.Unit as unit
 use Rattle.sender.specs.Sender as sender
 use Rattle.store.specs.Store as store
-use Rattle.store.specs.Store.{Rows, rows, unit-row, mark, use-at, units-put, uses-put, part, joined}
+use Rattle.store.specs.Store.{Rows, rows, unit-row, mark, use-at, units-put, uses-put}
 use Rattle.fair.specs.Given as shed
 use Rattle.fair.specs.Store as model
 use Rattle.fair.specs.Demand.{Kept, absent, present, there, found}

@@ -12,7 +12,7 @@ use Rattle.flow.specs.Flow as flow
 use Rattle.flow.specs.Flow.{whole, one, half}
 use Rattle.fair.specs.Runs.{clock}
 use Rattle.fair.specs.Demand.{Batch}
-use Rattle.fair.specs.Store.{Call, Judge, Row, verdict, store}
+use Rattle.fair.specs.Store.{Call, Judge, verdict, store}
 
 two : ℕ → ℕ → ℕ → ℕ
 two a b zero = a

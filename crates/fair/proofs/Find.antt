@@ -1,16 +1,15 @@
 -- Finding a unit's record in the lent rows is the model's finding, and putting its use back, or adding it at the end, is the model's put. Assumes nothing.
-use mathlib.Core.Path.{_≡_, refl, sym, ap, _∙_, subst}
+use mathlib.Core.Path.{_≡_, refl, sym, ap, _∙_}
 use Prim.Native.Nat.{ℕ, zero, suc, _+_, _≤_, _<_}
-use native.Mathlib.Numerals.{add-one}
 use native.Mathlib.Omega.{arith}
 use mathlib.Core.Bool.{Bool, true, false, cond, true≢false}
 use mathlib.Core.List.{List, [], _∷_, _++_}
 use lib.Dec.{ltb}
-use lib.ListN.{length, getD, length-set}
-use borrow.Author.Tests.{ltb-true, ltb-false, lt-ltb, le-ltb}
+use lib.ListN.{length}
+use borrow.Author.Tests.{ltb-true, lt-ltb, le-ltb}
 use Rattle.flow.specs.declared.Use.{Use}
 use Rattle.sender.specs.declared.Name as sender-name
-use Rattle.store.specs.Store.{Rows, rows, words-at, use-at, units-put, uses-put, added, is-at, first, find}
+use Rattle.store.specs.Store.{Rows, rows, words-at, use-at, units-put, uses-put, is-at, first, find}
 use Rattle.fair.specs.Store as model
 use Rattle.fair.specs.Demand.{Kept, absent, present, there}
 use Rattle.fair.proofs.View as view

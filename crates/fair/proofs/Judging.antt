@@ -1,28 +1,25 @@
 -- A judgement that is not refused: the real state after it is tied to the model's store after the model's judgement. Assumes nothing.
 use mathlib.Core.Path.{_≡_, refl, sym, ap, _∙_, subst}
-use Prim.Native.Nat.{ℕ, zero, suc, _+_, _-_, _^_, _≤_, _<_, max}
-use native.Mathlib.Nat.{le-refl, le-of-eq, le-trans}
+use Prim.Native.Nat.{ℕ, suc, _-_, _^_, _≤_, _<_, max}
+use native.Mathlib.Nat.{le-of-eq, le-trans}
 use native.Mathlib.Omega.{arith}
 use mathlib.Core.Bool.{Bool, true, false, cond, true≢false}
-use mathlib.Core.List.{List, [], _∷_}
-use lib.Dec.{T, eqb, leb, ltb}
+use mathlib.Core.List.{List}
+use lib.Dec.{eqb, leb, ltb}
 use lib.ListN.{length, getD}
 use lib.Ieee.{Float}
 use borrow.Author.Tests.{eqb-true, eq-eqb, leb-true, ltb-false}
 use Rattle.flow.proofs.Parts.{all-at}
 use Rattle.sender.specs.Sender as sender
 use Rattle.flow.specs.Flow.{dims, at, bucket-at, is-admitted}
-use Rattle.flow.specs.declared.Bucket.{Bucket}
 use Rattle.flow.specs.declared.Use.{Use}
 use Rattle.flow.specs.declared.Outcome.{Outcome}
 use Rattle.flow.specs.declared.Verdict.{Verdict}
 use Rattle.sender.specs.declared.Unit as unit
 use Rattle.store.specs.Store as store
 use Rattle.store.specs.Store.{Rows, rows}
-use Rattle.wants.specs.Wants.{Hist}
 use Rattle.head.specs.declared.Shedder.{Shedder}
 use Rattle.head.specs.declared.Flow.{Flow}
-use Rattle.head.specs.declared.Answer.{Answer}
 use Rattle.head.specs.declared.Answer.the-variants as answer
 use Rattle.fair.specs.Given as shed
 use Rattle.fair.specs.Given.{Memory, memory}
@@ -35,11 +32,11 @@ use Rattle.fair.proofs.View as view
 use Rattle.fair.proofs.View.{Name, same, shares, name-of}
 use Rattle.fair.proofs.Back.{Whole}
 use Rattle.fair.proofs.Entry as entry
-use Rattle.fair.proofs.Entry.{Held, Placed, After, viewed}
+use Rattle.fair.proofs.Entry.{Held, Placed, viewed}
 use Rattle.fair.proofs.Tied as tied
 use Rattle.fair.proofs.Tied.{Tied, Bound}
 use Rattle.fair.proofs.Outcome as outcome
-use Rattle.fair.proofs.Outcome.{batch-of, outcome-of, costs}
+use Rattle.fair.proofs.Outcome.{batch-of, outcome-of}
 
 -- ---- what a judgement finds, from the real head and rows
 abbrev pub found-at : Shedder → shed.Entered → Use

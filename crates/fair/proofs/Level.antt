@@ -1,22 +1,22 @@
 -- A fill is lawful: min (level, rate) is a finite double from 1 to the rate, whatever double the level was made from by max (.., 1), a NaN and the infinities too. Assumes nothing.
 use mathlib.Core.Path.{_≡_, refl, sym, ap, _∙_, subst}
-use Prim.Native.Nat.{ℕ, suc, _+_, _*_, _^_, _≤_, _<_, min, max}
-use native.Mathlib.Nat.{le-trans, le-of-eq, one-mul, mul-le-mul-right}
+use Prim.Native.Nat.{ℕ, _+_, _*_, _^_, _≤_}
+use native.Mathlib.Nat.{le-trans, le-of-eq, mul-le-mul-right}
 use native.Mathlib.Omega.{arith}
 use mathlib.Core.Bool.{Bool, true, false, cond}
 use lib.Dec.{T}
-use lib.IntN.{ℤ, pos}
+use lib.IntN.{ℤ}
 use lib.Ieee.{Float, nan, inf, fin, binary64, fits, lt, ne, eq, ofBits, up, down}
 use lib.Ieee.Fits.{down-pos}
 use borrow.Author.Tests.{lt-ltb}
-use Rattle.ieee.specs.Units.{power, units, Amount, Is}
-use Rattle.ieee.proofs.Power.{power-is, power-times}
+use Rattle.ieee.specs.Units.{power, units, Amount}
+use Rattle.ieee.proofs.Power.{power-is}
 use Rattle.ieee.proofs.Value.{one-is}
-use Rattle.ieee.proofs.Order.{self, recount, lt-inf}
+use Rattle.ieee.proofs.Order.{self, lt-inf}
 use Rattle.ieee.proofs.Laws.{int-is}
 use Rattle.ieee.specs.Extremes.{least, most}
 use Rattle.flow.specs.Flow.{whole, one}
-use Rattle.fair.proofs.Floats.{least-is, most-is}
+use Rattle.ieee.proofs.Extremes.{least-is, most-is}
 
 -- a level: an amount of at least 1, or the infinity
 pub data Level (x : Float) : Type 0 where

@@ -1,6 +1,6 @@
 -- A judgement on the record that was found or added, and a hand-back on it: the model's, whatever use was found. Assumes nothing.
 use mathlib.Core.Path.{_≡_, refl, sym, ap, _∙_, subst}
-use Prim.Native.Nat.{ℕ, _-_, _<_, _≤_, max}
+use Prim.Native.Nat.{ℕ, _-_, _<_, max}
 use mathlib.Core.Bool.{Bool, true, false}
 use mathlib.Core.List.{List}
 use lib.ListN.{length, getD, replicate, length-replicate}
@@ -13,12 +13,11 @@ use Rattle.flow.specs.declared.Verdict.{Verdict}
 use Rattle.ieee.specs.Extremes.{most}
 use Rattle.fade.specs.Fade.{fade}
 use Rattle.flow.specs.Flow as flow
-use Rattle.flow.specs.Flow.{dims, nothing, whole, at, bucket-at, upto}
+use Rattle.flow.specs.Flow.{dims, nothing, whole, at, bucket-at}
 use Rattle.flow.proofs.Parts.{upto-length, each-at, buckets-at}
 use Rattle.fair.specs.Given as shed
 use Rattle.fair.specs.Calls as calls
-use Rattle.fair.specs.Demand as demand
-use Rattle.fair.specs.Demand.{Batch, Here, Kept, present, State, found, priced, verdict-here, does}
+use Rattle.fair.specs.Demand.{Batch, Here, present, State, found, priced, verdict-here, does}
 use Rattle.fair.proofs.Bridge as bridge
 use Rattle.fair.proofs.Back.{Whole}
 

@@ -1,20 +1,19 @@
 -- Demand 3 over a store, from the demand over one record: each history is seen as that record sees it. Assumes nothing.
 use mathlib.Core.Path.{_≡_, refl, sym, ap, _∙_, subst}
-use Prim.Native.Nat.{ℕ, zero, suc, _+_, _-_, _*_, _^_, _≤_, _<_, min, max}
+use Prim.Native.Nat.{ℕ, suc, _+_, _-_, _*_, _^_, _≤_, _<_, max}
 use native.Mathlib.Omega.{arith}
-use mathlib.Core.Bool.{Bool, true, false, _&&_, cond, true≢false}
+use mathlib.Core.Bool.{Bool, true, false, cond, true≢false}
 use mathlib.Core.List.{List, [], _∷_}
-use lib.Dec.{T, ltb}
+use lib.Dec.{T}
 use lib.Ieee as Ieee
 use lib.Ieee.{Float}
-use Rattle.ieee.specs.Units.{power, units, Amount}
-use Rattle.flow.specs.declared.Bucket.{Bucket}
+use Rattle.ieee.specs.Units.{power, units}
 use Rattle.flow.specs.declared.Use.{Use}
 use Rattle.flow.specs.declared.Verdict.{Verdict}
-use Rattle.flow.specs.declared.Verdict.the-variants.{Admitted, OverShare, RelayRate}
+use Rattle.flow.specs.declared.Verdict.the-variants.{OverShare}
 use Rattle.flow.specs.Flow as flow
 use Rattle.flow.specs.Flow.{dims, one, at}
-use Rattle.fair.specs.Runs.{sum, highest, lowest, Since, clock, back, Each}
+use Rattle.fair.specs.Runs.{sum, highest, lowest, clock, back, Each}
 use Rattle.fair.specs.Tokens.{burst}
 use Rattle.fair.specs.Demand as demand
 use Rattle.fair.specs.Demand.{Batch, Deed, Here, There, CutThere, Idle, Kept, absent, present, State, does, verdict-here, verdict-there, credit-holds, is-admitted, settled, credited, priced, state}

@@ -4,7 +4,7 @@ use Prim.Native.Nat.{ℕ, zero, suc, _+_, _≤_, _<_}
 use native.Mathlib.Numerals.{add-one}
 use native.Mathlib.Omega.{arith}
 use native.Mathlib.Decide.{ℕ-discrete}
-use mathlib.Core.Bool.{Bool, true, false, cond}
+use mathlib.Core.Bool.{Bool, true, false}
 use mathlib.Core.List.{List, [], _∷_, _++_}
 use lib.Dec.{ltb}
 use Rattle.flow.specs.Flow.{nothing}

@@ -1,22 +1,19 @@
 -- How the real state and the model's store are tied, and that a scan keeps them so: its visits are one sweep. Assumes nothing.
 use mathlib.Core.Path.{_≡_, refl, sym, ap, _∙_, subst}
-use Prim.Native.Nat.{ℕ, zero, suc, _+_, _-_, _≤_, _<_}
-use native.Mathlib.Nat.{le-refl, le-of-eq}
+use Prim.Native.Nat.{ℕ, _+_, _-_, _≤_, _<_}
+use native.Mathlib.Nat.{le-refl}
 use native.Mathlib.Omega.{arith}
 use mathlib.Core.Bool.{Bool, true, false, _&&_, cond, true≢false}
-use mathlib.Core.List.{List, [], _∷_, _++_}
+use mathlib.Core.List.{List, [], _∷_}
 use lib.Dec.{eqb, leb, ltb}
-use lib.ListN.{length, getD, length-replicate}
+use lib.ListN.{length, length-replicate}
 use lib.Ieee as Ieee
 use lib.Ieee.{Float, binary64, nan}
 use lib.Ieee.Fits.{mul-fits}
 use borrow.Author.Tests.{ltb-true, lt-ltb}
 use Rattle.ieee.specs.Extremes.{most}
-use Rattle.flow.specs.Flow.{dims, at, bucket-at, upto, one, nothing}
-use Rattle.flow.specs.declared.Bucket.{Bucket}
-use Rattle.flow.specs.declared.Use.{Use}
+use Rattle.flow.specs.Flow.{dims, at, bucket-at, one, nothing}
 use Rattle.flow.proofs.Parts.{upto-at}
-use Rattle.store.specs.Store as store
 use Rattle.store.specs.Store.{Rows}
 use Rattle.wants.specs.Wants as wants
 use Rattle.wants.specs.Wants.{Hist}

@@ -1,7 +1,7 @@
 -- Demand 3, in terms of the real calls: every list of calls on one shedder's head and memory, from a start at bounded rates on. Definitions, and the statement.
 -- To be laid beside document 01's paragraphs on demand 3: the words in quotes are the paper's. All levels, wants, fills, drops and the record that a call uses are those of demand 2's
 -- definitions (`judge`, `cut` and what they are made of, which the contracts of the program cite): nothing here is read out of the program.
-use Prim.Native.Nat.{ℕ, zero, suc, _+_, _-_, _*_, _≤_, _<_, max}
+use Prim.Native.Nat.{ℕ, suc, _+_, _-_, _*_, _≤_, _<_, max}
 use mathlib.Core.Path.{_≡_}
 use mathlib.Core.Bool.{Bool, true, false, cond}
 use mathlib.Core.List.{List, [], _∷_}

@@ -4,7 +4,7 @@
 --   2. the call's answer is `verdict` of its batch, with its want, its reserve test and, for a batch of another record, its credit test, as demand 2's definition gives them;
 --   3. the deed is `Lawful`: questions 5 and 6, and that a fill, min (level, rate), is a finite double from 0 to 2 ^ 40 (the level is never a NaN, and at least 1);
 --   4. a scan drops R only where its stamp is more than 8000 before the clock (the scan's stamp is at most the clock), and never in a call that judges R.
-use Prim.Native.Nat.{ℕ, zero, suc, _+_, _-_, _*_, _^_, _≤_, _<_, min, max}
+use Prim.Native.Nat.{ℕ, suc, _+_, _-_, _*_, _^_, _≤_, _<_, max}
 use mathlib.Core.Path.{_≡_}
 use mathlib.Core.Bool.{Bool, true, false, cond}
 use mathlib.Core.List.{List, [], _∷_}
@@ -16,7 +16,7 @@ use Rattle.ieee.specs.Units.{power, units, Amount}
 use Rattle.flow.specs.declared.Bucket.{Bucket}
 use Rattle.flow.specs.declared.Use.{Use}
 use Rattle.flow.specs.declared.Verdict.{Verdict}
-use Rattle.flow.specs.declared.Verdict.the-variants.{Admitted, OverShare, RelayRate}
+use Rattle.flow.specs.declared.Verdict.the-variants.{OverShare}
 use Rattle.flow.specs.Flow as flow
 use Rattle.flow.specs.Flow.{dims, one, nothing, whole, at, each, all}
 use Rattle.fair.specs.Runs.{sum, highest, lowest, Since, clock, back, Each}

@@ -1,6 +1,6 @@
 -- Demand 3 over a store: rows in the order of arrival, found by their sender, with room for so many; past that, overflow's record; and a sweep at a judgement. Definitions, and the statement.
 -- What demand 2's definition computes of levels, wants, reserve and the scan's tables comes in with each call here, so the demand holds whatever that is.
-use Prim.Native.Nat.{ℕ, zero, suc, _+_, _-_, _*_, _^_, _≤_, _<_, min, max}
+use Prim.Native.Nat.{ℕ, suc, _+_, _-_, _*_, _^_, _≤_, _<_, max}
 use mathlib.Core.Path.{_≡_}
 use mathlib.Core.Bool.{Bool, true, false, _&&_, cond}
 use mathlib.Core.List.{List, [], _∷_}
@@ -12,13 +12,13 @@ use Rattle.ieee.specs.Units.{power, units, Amount}
 use Rattle.flow.specs.declared.Bucket.{Bucket}
 use Rattle.flow.specs.declared.Use.{Use}
 use Rattle.flow.specs.declared.Verdict.{Verdict}
-use Rattle.flow.specs.declared.Verdict.the-variants.{Admitted, OverShare, RelayRate}
+use Rattle.flow.specs.declared.Verdict.the-variants.{OverShare}
 use Rattle.flow.specs.Flow as flow
 use Rattle.flow.specs.Flow.{dims, one, at}
 use Rattle.fair.specs.Runs.{sum, highest, lowest, Since, clock, back, Each}
 use Rattle.fair.specs.Tokens.{burst}
 use Rattle.fair.specs.Demand as demand
-use Rattle.fair.specs.Demand.{Batch, Deed, Here, There, Kept, absent, present, State, does, verdict-here, credit-holds, is-admitted, Small}
+use Rattle.fair.specs.Demand.{Batch, Here, Kept, absent, present, State, does, verdict-here, is-admitted, Small}
 
 -- a sender's name, whether two are the same, and whether it goes to overflow's record at once; and the room for rows
 module _ (Name : Type 0) (same : Name → Name → Bool) (shares : Name → Bool) (room : ℕ) where

@@ -1,8 +1,8 @@
 -- A judgement and a cut leave the head whole. Assumes nothing.
-use mathlib.Core.Path.{_≡_, refl, sym, ap, _∙_}
+use mathlib.Core.Path.{_≡_, refl, sym, _∙_}
 use mathlib.Core.Bool.{Bool, true, false}
 use mathlib.Core.List.{List, [], _∷_}
-use Prim.Native.Nat.{ℕ, suc, _+_, _%_, _^_, _≤_, _<_, max}
+use Prim.Native.Nat.{ℕ, _+_, _%_, _^_, _≤_, _<_, max}
 use native.Mathlib.Omega.{arith}
 use lib.Dec.{eqb, ltb}
 use lib.ListN.{length, getD, set, length-set}
@@ -14,21 +14,22 @@ use Rattle.sender.specs.declared.Unit.{Unit}
 use Rattle.sender.specs.declared.Words.{Words}
 use Rattle.sender.specs.Sender.{words-of, name-of, is-overflow}
 use Rattle.store.specs.Store as store
-use Rattle.store.specs.Store.{Rows, Sources, sources, find, counted-find, counted-up, counted-add, totals, keep-from, prune}
+use Rattle.store.specs.Store.{Rows, Sources, sources, find, counted-find, counted-up, counted-add}
 use Rattle.store.proofs.Pruning.{frees}
 use Rattle.head.specs.declared.Shedder.{Shedder}
 use Rattle.head.specs.declared.Cause.{Cause}
 use Rattle.head.specs.Numbers.{choose}
-use Rattle.head.specs.Questions.{is-unbounded, head-whole, memory-whole, costs-held, is-stamp, judge-asked, cut-asked}
+use Rattle.head.specs.Questions.{is-unbounded, head-whole, judge-asked, cut-asked}
 use Rattle.head.specs.Readings.{index-of}
-use Rattle.head.proofs.Asked.{asked-ready, cut-ready}
-use Rattle.scan.specs.Scanning.{scanning, scanned}
+use Rattle.head.proofs.Asked.{asked-ready}
+use Rattle.scan.specs.Scanning.{scanning}
 use Rattle.shed.specs.Entering.{is-misplaced, Entered, entry}
 use Rattle.shed.specs.Counting.{Tally, tally, added, cause-of, tallied, told}
-use Rattle.shed.specs.Judging.{Through, flowed, judged, Memory, Judged, bounded, judge}
+use Rattle.shed.specs.Judging.{flowed, judged, Memory, Judged, bounded, judge}
 use Rattle.shed.specs.Cutting.{KeptBy, kept-by, hands-back, flowed-back, handed-back, Cut, noted, cut-after, cut}
 use Rattle.shed.specs.Whole.{Stays}
-use Rattle.shed.proofs.Whole.{Whole, whole-of, whole-is, scanned-whole, start-whole, start-keeps, judge-memory, cut-memory, memory-counted}
+use Rattle.head.proofs.Whole.{Whole, whole-of, whole-is}
+use Rattle.shed.proofs.Whole.{scanned-whole, start-whole, start-keeps, judge-memory, cut-memory, memory-counted}
 
 -- ---- the record
 choose-entered : (b : Bool) (x y : Entered) (n : ℕ) → (b ≡ true → x .place .tracked ≤ n) → y .place .tracked ≤ n → choose b x y .place .tracked ≤ n
