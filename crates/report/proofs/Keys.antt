@@ -18,7 +18,7 @@ use Rattle.sender.specs.declared.Group.the-variants.{V4, V6}
 use Rattle.sender.specs.declared.Unit.{Unit}
 use Rattle.sender.specs.declared.Unit.the-variants.{Corroborated, Group as Grouped, NoAddress, Overflow}
 use Rattle.sender.specs.Sender.{unit-of, pick}
-use Rattle.sender.specs.Label.{label, key-label, v4-label, v6-label}
+use Rattle.label.specs.Label.{label, key-label, v4-label, v6-label}
 use Rattle.store.specs.Store.{words-at}
 use Rattle.report.specs.Sources.{unit-at, label-at}
 use Rattle.report.proofs.Ordering.{less-irreflexive, less-transitive, less-first}

@@ -13,8 +13,8 @@ use Rattle.sender.specs.declared.PublicKey.{PublicKey}
 use Rattle.sender.specs.declared.Group.the-variants.{V4, V6}
 use Rattle.sender.specs.declared.Unit.{Unit}
 use Rattle.sender.specs.declared.Unit.the-variants.{Corroborated, Group as Grouped, NoAddress, Overflow}
-use Rattle.sender.specs.Label.{label, key-label, v4-label, v6-label}
-use Rattle.sender.proofs.Labels.{decimal-short, hexadecimal-short}
+use Rattle.label.specs.Label.{label, key-label, v4-label, v6-label}
+use Rattle.label.proofs.Labels.{decimal-short, hexadecimal-short}
 use Rattle.flow.specs.Flow.{dims}
 use Rattle.head.specs.declared.Shedder.{Shedder}
 use Rattle.head.specs.Questions.{is-unbounded}

@@ -14,7 +14,7 @@ use Rattle.text.specs.Number.{decimal}
 use Rattle.text.proofs.Writing.{writes-joined, front}
 use Rattle.io.specs.Counts.{Counts}
 use Rattle.sender.specs.declared.Unit.{Unit}
-use Rattle.sender.specs.Label.{label}
+use Rattle.label.specs.Label.{label}
 use Rattle.head.specs.declared.Shedder.{Shedder}
 use Rattle.head.specs.Questions.{is-unbounded}
 use Rattle.report.specs.Sources.{unit-at, counts-at, first-after, named, better, reported}

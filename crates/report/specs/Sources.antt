@@ -7,7 +7,7 @@ use lib.ListN.{getD}
 use Rattle.text.specs.Order.{less}
 use Rattle.sender.specs.declared.Unit.{Unit}
 use Rattle.sender.specs.Sender.{unit-of}
-use Rattle.sender.specs.Label.{label}
+use Rattle.label.specs.Label.{label}
 use Rattle.store.specs.Store.{words-at, total-at}
 
 -- ---- a counted source: its unit, its label, its counts of receiver-ceiling, over-share and relay-rate

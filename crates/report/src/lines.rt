@@ -11,8 +11,8 @@ use crate::sources::first_after;
 use crate::sources::unit_at;
 use flow::DIMS;
 use head::Shedder;
-use sender::label::LABEL_MOST;
-use sender::label::write_label;
+use label::LABEL_MOST;
+use label::write_label;
 use text::put;
 
 // The sources that a report names at most.

@@ -5,12 +5,12 @@ ghost use mathlib.Core.List.{List, _++_};
 ghost use lib.ListN.{length};
 ghost use Rattle.text.specs.Number.{word};
 ghost use Rattle.text.specs.Order.{less};
-ghost use Rattle.sender.specs.Label.{key-label};
+ghost use Rattle.label.specs.Label.{key-label};
 ghost use Rattle.report.specs.Sources as sources;
 use sender::PublicKey;
 use sender::Unit;
 use sender::Words;
-use sender::label::label_less;
+use label::label_less;
 use store::total_at;
 
 // The unit of a counted source.

@@ -16,7 +16,7 @@ use Rattle.text.specs.Number.{numeral, decimal, hexadecimal, word}
 use Rattle.sender.specs.declared.Group.the-variants.{V4, V6}
 use Rattle.sender.specs.declared.Unit as unit
 use Rattle.sender.specs.declared.Unit.the-variants.{Corroborated, Group as Grouped, NoAddress, Overflow}
-use Rattle.sender.specs.Label.{label, key-label, v4-label, v6-label}
+use Rattle.label.specs.Label.{label, key-label, v4-label, v6-label}
 use Rattle.head.specs.declared.Cause as cause
 use Rattle.head.specs.declared.Cause.the-variants.{ReceiverCeiling, OverShare, RelayRate}
 use Rattle.script.specs.Fields.{width, first, rest}

@@ -6,8 +6,3 @@ pub mod Ranking
 pub mod Doubles
 pub mod Naming
 pub mod Cases
-pub mod Labels
-pub mod Fields
-pub mod Reading
-pub mod Parsing
-pub mod LabelCases

@@ -4,7 +4,6 @@ ghost use Rattle.sender.specs.Sender as sender;
 
 pub mod fnv;
 pub mod hash;
-pub mod label;
 pub mod memory;
 
 pub use hash::hash_of;

@@ -2,7 +2,7 @@
 use mathlib.Core.Path.{ap, _∙_}
 use Rattle.text.specs.Order.{less}
 use Rattle.sender.specs.declared.Unit.{Unit}
-use Rattle.sender.specs.Label.{label}
+use Rattle.label.specs.Label.{label}
 use Rattle.store.specs.Store.{words-at}
 use Rattle.report.specs.Sources.{label-at}
 use Rattle.report.proofs.Keys.{key-at, both-keys, first-key, second-key}

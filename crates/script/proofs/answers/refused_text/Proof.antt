@@ -4,7 +4,7 @@ use mathlib.Core.List.{[], _∷_}
 use native.Mathlib.Omega.{arith}
 use lib.ListN.{length}
 use denote.Ref.{now}
-use Rattle.sender.proofs.Labels.{decimal-short}
+use Rattle.label.proofs.Labels.{decimal-short}
 use Rattle.text.specs.Number.{decimal}
 use Rattle.script.specs.Answers.{refused-text}
 use Rattle.script.proofs.Texts.{three-front}

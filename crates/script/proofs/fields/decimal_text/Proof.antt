@@ -5,7 +5,7 @@ use lib.ListN.{length}
 use denote.Ref.{now}
 use Rattle.text.specs.Number.{decimal}
 use Rattle.text.proofs.Writing.{front}
-use Rattle.sender.proofs.Labels.{decimal-short}
+use Rattle.label.proofs.Labels.{decimal-short}
 use borrow.Author.Needs.{needs}
 use Rattle.script.proofs.fields.decimal_text.Statement.{statement}
 use Rattle.script.proofs.fields.decimal_text.Tie as tie
