@@ -1,4 +1,4 @@
-// The head of the Shedder: document 01's questions about it, the start and the readings.
+// The head of the Shedder: document 01's questions about it, and the start.
 ghost use mathlib.Core.Path.{_≡_};
 ghost use mathlib.Core.Bool.{_&&_};
 ghost use Prim.Native.Nat.{_<_, _-_};
@@ -450,7 +450,7 @@ pub fn start(
     }
 }
 
-// ---- the readings
+// ---- the causes
 
 // A cause's place among the counts.
 pub fn index_of(cause: Cause) -> usize
@@ -462,84 +462,4 @@ pub fn index_of(cause: Cause) -> usize
         Cause::OverShare => 1,
         Cause::RelayRate => 2,
     }
-}
-
-fn dim_of(dim: Dim) -> usize
-    ensures { λ r. ⌜ r ≡ readings.dim-of dim ⌝ }
-    ensures { λ r. ⌜ r < numbers.dims ⌝ }
-{
-    match dim {
-        Dim::Receptions => 0,
-        Dim::Bytes => 1,
-    }
-}
-
-// Tables that the scans have visited, all told.
-pub fn visited(head: Shedder) -> Reading
-    ensures { λ r. ⌜ r ≡ readings.visited head ⌝ }
-    ensures { λ r. ⌜ answers.reading-number r ≡ asked.read-asked head ⌝ }
-{
-    if head_whole(head) {
-        return Reading::Whole(head.visits);
-    }
-    Reading::Refused(3)
-}
-
-// Batches cut for a cause so far.
-pub fn cut_batches(head: Shedder, cause: Cause) -> Reading
-    ensures { λ r. ⌜ r ≡ readings.cut-batches head cause ⌝ }
-    ensures { λ r. ⌜ answers.reading-number r ≡ asked.read-asked head ⌝ }
-{
-    if head_whole(head) {
-        let b = head.batches;
-        let i = index_of(cause);
-        return Reading::Whole(b[i]);
-    }
-    Reading::Refused(3)
-}
-
-// The level of a dimension, as the last scan left it.
-pub fn level(head: Shedder, dim: Dim) -> LevelRead
-    ensures { λ r. ⌜ r ≡ readings.level-read head dim ⌝ }
-    ensures { λ r. ⌜ answers.level-number r ≡ asked.read-asked head ⌝ }
-{
-    if head_whole(head) {
-        let l = head.level;
-        let d = dim_of(dim);
-        return LevelRead::Level(l[d]);
-    }
-    LevelRead::Refused(3)
-}
-
-// The rate of a dimension, given at the start.
-pub fn rate(head: Shedder, dim: Dim) -> RateRead
-    ensures { λ r. ⌜ r ≡ readings.rate-read head dim ⌝ }
-    ensures { λ r. ⌜ answers.rate-number r ≡ asked.read-asked head ⌝ }
-{
-    if head_whole(head) {
-        let f = head.flow;
-        let all = f.rate;
-        if is_unbounded(all) {
-            return RateRead::Unbounded;
-        }
-        let d = dim_of(dim);
-        return RateRead::PerSecond(all[d]);
-    }
-    RateRead::Refused(3)
-}
-
-// Whether the relay sheds for its rate at all.
-pub fn is_bounded(head: Shedder) -> BoundedRead
-    ensures { λ r. ⌜ r ≡ readings.is-bounded head ⌝ }
-    ensures { λ r. ⌜ answers.bounded-number r ≡ asked.read-asked head ⌝ }
-{
-    if head_whole(head) {
-        let f = head.flow;
-        let rate = f.rate;
-        if is_unbounded(rate) {
-            return BoundedRead::Unbounded;
-        }
-        return BoundedRead::Bounded;
-    }
-    BoundedRead::Refused(3)
 }

@@ -216,7 +216,7 @@ fn turn(
             handed,
         };
     }
-    let reading = head::visited(head);
+    let reading = readings::visited(head);
     let number = reading_number(reading);
     let none = [0u64; DIMS];
     Turned {

@@ -1,16 +1,16 @@
 -- `sender::fnv::wrapping_mul` is the remainder of the product by 2^64: no product of halves overflows, and `by-halves` gives the sum.
 use Rattle.sender.proofs.Multiplying.{halves-fit, by-halves}
-use Prim.Native.Nat.{ℕ, _+_, _*_, _/_, _%_, _^_}
+use Prim.Native.Nat.{ℕ, _+_, _*_, _%_, _^_}
 use mathlib.Core.Path.{ap, _∙_}
 use borrow.Author.Needs.{needs}
 use Rattle.sender.proofs.fnv.wrapping_mul.Statement.{statement}
 use Rattle.sender.proofs.fnv.wrapping_mul.Tie as tie
 
 mul-wrapping-add-u64 : tie.Need-mul-wrapping-add-u64
-mul-wrapping-add-u64 c = halves-fit (c .args .x / 4294967296) (c .args .y % 4294967296) (search needs) (search needs)
+mul-wrapping-add-u64 c = halves-fit _ _ (search needs) (search needs)
 
 mul-wrapping-add-u64-2 : tie.Need-mul-wrapping-add-u64-2
-mul-wrapping-add-u64-2 c = halves-fit (c .args .x % 4294967296) (c .args .y / 4294967296) (search needs) (search needs)
+mul-wrapping-add-u64-2 c = halves-fit _ _ (search needs) (search needs)
 
 wrapping-add-u64-requires : tie.Need-wrapping-add-u64-requires
 wrapping-add-u64-requires c κs = search needs
@@ -19,7 +19,7 @@ mul-wrapping-add-u64-3 : tie.Need-mul-wrapping-add-u64-3
 mul-wrapping-add-u64-3 c = search needs
 
 mul-wrapping-add-u64-4 : tie.Need-mul-wrapping-add-u64-4
-mul-wrapping-add-u64-4 c = halves-fit (c .before .args .x % 4294967296) (c .before .args .y % 4294967296) (search needs) (search needs)
+mul-wrapping-add-u64-4 c = halves-fit _ _ (search needs) (search needs)
 
 wrapping-add-u64-requires-2 : tie.Need-wrapping-add-u64-requires-2
 wrapping-add-u64-requires-2 c κs = search needs

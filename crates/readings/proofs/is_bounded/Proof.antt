@@ -1,14 +1,10 @@
 use Rattle.head.specs.Readings.{is-bounded}
 use Rattle.head.specs.Questions.{read-asked}
 use Rattle.head.specs.Answers.{bounded-number}
-use mathlib.Core.Path.{_≡_, refl, sym, ap, _∙_}
+use mathlib.Core.Path.{sym}
 use borrow.Author.Needs.{needs}
-use Rattle.head.proofs.is_bounded.Statement.{statement}
-use Rattle.head.proofs.is_bounded.Tie as tie
-use Rattle.head.proofs.is_bounded.Reads as reads
-use Rattle.head.proofs.is_bounded.Lts as lts
-use Rattle.head.proofs.head_whole.Reads as head-whole-reads
-use Rattle.head.proofs.is_unbounded.Reads as is-unbounded-reads
+use Rattle.readings.proofs.is_bounded.Statement.{statement}
+use Rattle.readings.proofs.is_bounded.Tie as tie
 
 head-whole-requires : tie.Need-head-whole-requires
 head-whole-requires c κs = search needs

@@ -1,15 +1,10 @@
 use Rattle.head.specs.Readings.{rate-read}
 use Rattle.head.specs.Questions.{read-asked}
 use Rattle.head.specs.Answers.{rate-number}
-use mathlib.Core.Path.{_≡_, refl, sym, ap, _∙_}
+use mathlib.Core.Path.{sym}
 use borrow.Author.Needs.{needs}
-use Rattle.head.proofs.rate.Statement.{statement}
-use Rattle.head.proofs.rate.Tie as tie
-use Rattle.head.proofs.rate.Reads as reads
-use Rattle.head.proofs.rate.Lts as lts
-use Rattle.head.proofs.dim_of.Reads as dim-of-reads
-use Rattle.head.proofs.head_whole.Reads as head-whole-reads
-use Rattle.head.proofs.is_unbounded.Reads as is-unbounded-reads
+use Rattle.readings.proofs.rate.Statement.{statement}
+use Rattle.readings.proofs.rate.Tie as tie
 
 head-whole-requires : tie.Need-head-whole-requires
 head-whole-requires c κs = search needs

@@ -1,14 +1,10 @@
 use Rattle.head.specs.Readings.{level-read}
 use Rattle.head.specs.Questions.{read-asked}
 use Rattle.head.specs.Answers.{level-number}
-use mathlib.Core.Path.{_≡_, refl, sym, ap, _∙_}
+use mathlib.Core.Path.{sym}
 use borrow.Author.Needs.{needs}
-use Rattle.head.proofs.level.Statement.{statement}
-use Rattle.head.proofs.level.Tie as tie
-use Rattle.head.proofs.level.Reads as reads
-use Rattle.head.proofs.level.Lts as lts
-use Rattle.head.proofs.dim_of.Reads as dim-of-reads
-use Rattle.head.proofs.head_whole.Reads as head-whole-reads
+use Rattle.readings.proofs.level.Statement.{statement}
+use Rattle.readings.proofs.level.Tie as tie
 
 head-whole-requires : tie.Need-head-whole-requires
 head-whole-requires c κs = search needs

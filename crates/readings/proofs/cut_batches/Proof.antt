@@ -1,14 +1,10 @@
 use Rattle.head.specs.Readings.{cut-batches}
 use Rattle.head.specs.Questions.{read-asked}
 use Rattle.head.specs.Answers.{reading-number}
-use mathlib.Core.Path.{_≡_, refl, sym, ap, _∙_}
+use mathlib.Core.Path.{sym}
 use borrow.Author.Needs.{needs}
-use Rattle.head.proofs.cut_batches.Statement.{statement}
-use Rattle.head.proofs.cut_batches.Tie as tie
-use Rattle.head.proofs.cut_batches.Reads as reads
-use Rattle.head.proofs.cut_batches.Lts as lts
-use Rattle.head.proofs.head_whole.Reads as head-whole-reads
-use Rattle.head.proofs.index_of.Reads as index-of-reads
+use Rattle.readings.proofs.cut_batches.Statement.{statement}
+use Rattle.readings.proofs.cut_batches.Tie as tie
 
 head-whole-requires : tie.Need-head-whole-requires
 head-whole-requires c κs = search needs

@@ -1,13 +1,10 @@
 use Rattle.head.specs.Readings.{visited}
 use Rattle.head.specs.Questions.{read-asked}
 use Rattle.head.specs.Answers.{reading-number}
-use mathlib.Core.Path.{_≡_, refl, sym, ap, _∙_}
+use mathlib.Core.Path.{sym}
 use borrow.Author.Needs.{needs}
-use Rattle.head.proofs.visited.Statement.{statement}
-use Rattle.head.proofs.visited.Tie as tie
-use Rattle.head.proofs.visited.Reads as reads
-use Rattle.head.proofs.visited.Lts as lts
-use Rattle.head.proofs.head_whole.Reads as head-whole-reads
+use Rattle.readings.proofs.visited.Statement.{statement}
+use Rattle.readings.proofs.visited.Tie as tie
 
 head-whole-requires : tie.Need-head-whole-requires
 head-whole-requires c κs = search needs

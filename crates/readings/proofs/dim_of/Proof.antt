@@ -1,9 +1,7 @@
 use Rattle.head.specs.Readings.{dim-of}
 use borrow.Author.Needs.{needs}
-use Rattle.head.proofs.dim_of.Statement.{statement}
-use Rattle.head.proofs.dim_of.Tie as tie
-use Rattle.head.proofs.dim_of.Reads as reads
-use Rattle.head.proofs.dim_of.Lts as lts
+use Rattle.readings.proofs.dim_of.Statement.{statement}
+use Rattle.readings.proofs.dim_of.Tie as tie
 
 enum-told : tie.Need-enum-told
 enum-told c = search needs
