@@ -17,7 +17,8 @@ use Rattle.sender.specs.declared.Unit.{Unit}
 use Rattle.label.specs.Label.{label}
 use Rattle.head.specs.declared.Shedder.{Shedder}
 use Rattle.head.specs.Questions.{is-unbounded}
-use Rattle.report.specs.Sources.{unit-at, counts-at, first-after, named, better, reported}
+use Rattle.store.specs.Store.{counts-at}
+use Rattle.report.specs.Sources.{unit-at, first-after, named, better, reported}
 use Rattle.report.specs.Lines.{rate, ceiling, active, receiver-ceiling, over-share, relay-rate, source, space, line-feed, numbers, line, rates-line, cause-line, source-line, source-lines, head-lines, text}
 
 pub writes-append : (p : Page) (xs ys : List (List ℕ)) → writes p (xs ++ ys) ≡ writes (writes p xs) ys

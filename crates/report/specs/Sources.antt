@@ -3,22 +3,18 @@ use Prim.Native.Nat.{ℕ, zero, suc}
 use mathlib.Core.Bool.{Bool, true, false, cond}
 use mathlib.Core.List.{List, [], _∷_}
 use lib.Dec.{eqb, ltb}
-use lib.ListN.{getD}
 use Rattle.text.specs.Order.{less}
 use Rattle.sender.specs.declared.Unit.{Unit}
 use Rattle.sender.specs.Sender.{unit-of}
 use Rattle.label.specs.Label.{label}
 use Rattle.store.specs.Store.{words-at, total-at}
 
--- ---- a counted source: its unit, its label, its counts of receiver-ceiling, over-share and relay-rate
+-- ---- a counted source: its unit and its label
 unfoldable pub unit-at : List (List ℕ) → ℕ → Unit
 unit-at rows i = unit-of (words-at rows i)
 
 abbrev pub label-at : List (List ℕ) → ℕ → List ℕ
 label-at rows i = label (unit-at rows i)
-
-unfoldable pub counts-at : List (List ℕ) → ℕ → List ℕ
-counts-at rows i = getD (getD rows i []) 5 0 ∷ getD (getD rows i []) 6 0 ∷ getD (getD rows i []) 7 0 ∷ []
 
 -- ---- the order
 -- of two sources with the same total

@@ -7,10 +7,9 @@ ghost use Rattle.text.specs.Number.{word};
 ghost use Rattle.text.specs.Order.{less};
 ghost use Rattle.label.specs.Label.{key-label};
 ghost use Rattle.report.specs.Sources as sources;
+use label::label_less;
 use sender::PublicKey;
 use sender::Unit;
-use sender::Words;
-use label::label_less;
 use store::total_at;
 
 // The unit of a counted source.
@@ -18,23 +17,7 @@ pub fn unit_at(counted: &[[u64; 8]], i: usize) -> Unit
     requires { ⌜ i < length (now counted) ⌝ }
     ensures { λ r. ⌜ r ≡ sources.unit-at (now (counted .entry)) i ⌝ }
 {
-    let row = counted[i];
-    sender::unit_of(Words {
-        kind: row[0],
-        a: row[1],
-        b: row[2],
-        c: row[3],
-        d: row[4],
-    })
-}
-
-// Its counts of receiver-ceiling, over-share and relay-rate.
-pub fn counts_at(counted: &[[u64; 8]], i: usize) -> [u64; 3]
-    requires { ⌜ i < length (now counted) ⌝ }
-    ensures { λ r. ⌜ r ≡ sources.counts-at (now (counted .entry)) i ⌝ }
-{
-    let row = counted[i];
-    [row[5], row[6], row[7]]
+    sender::unit_of(store::counted_words(counted, i))
 }
 
 // Whether 16 hexadecimal digits of x, and a text behind them, stand before those of y and another text; rest tells

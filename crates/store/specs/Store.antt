@@ -184,6 +184,10 @@ count rows n w cause =
 unfoldable pub total : List ℕ → ℕ
 total row = (getD row 5 0 + getD row 6 0 + getD row 7 0) % 2 ^ 64
 
+-- its counts of receiver-ceiling, over-share and relay-rate
+unfoldable pub counts-at : List (List ℕ) → ℕ → List ℕ
+counts-at rows i = getD (counted-row rows i) 5 0 ∷ getD (counted-row rows i) 6 0 ∷ getD (counted-row rows i) 7 0 ∷ []
+
 unfoldable pub total-at : List (List ℕ) → ℕ → ℕ
 total-at rows i = total (counted-row rows i)
 

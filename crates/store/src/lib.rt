@@ -285,7 +285,7 @@ pub fn retain(
 
 // ---- counted sources: kind, four words, three counts
 
-fn counted_words(counted: &[[u64; 8]], i: usize) -> Words
+pub fn counted_words(counted: &[[u64; 8]], i: usize) -> Words
     requires { ⌜ i < length (now counted) ⌝ }
     ensures { λ r. ⌜ r ≡ store.words-at (now (counted .entry)) i ⌝ }
 {
@@ -297,6 +297,15 @@ fn counted_words(counted: &[[u64; 8]], i: usize) -> Words
         c: row[3],
         d: row[4],
     }
+}
+
+// A source's counts of receiver-ceiling, over-share and relay-rate.
+pub fn counts_at(counted: &[[u64; 8]], i: usize) -> [u64; 3]
+    requires { ⌜ i < length (now counted) ⌝ }
+    ensures { λ r. ⌜ r ≡ store.counts-at (now (counted .entry)) i ⌝ }
+{
+    let row = counted[i];
+    [row[5], row[6], row[7]]
 }
 
 fn counted_is(counted: &[[u64; 8]], i: usize, w: Words) -> bool

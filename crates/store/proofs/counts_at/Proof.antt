@@ -1,8 +1,8 @@
--- `sources::counts_at` meets its contract: the row's last three words. Assumes nothing.
-use Rattle.report.specs.Sources.{counts-at}
+-- `store::counts_at` meets its contract: the row's last three words. Assumes nothing.
+use Rattle.store.specs.Store.{counts-at, counted-row}
 use borrow.Author.Needs.{needs}
-use Rattle.report.proofs.sources.counts_at.Statement.{statement}
-use Rattle.report.proofs.sources.counts_at.Tie as tie
+use Rattle.store.proofs.counts_at.Statement.{statement}
+use Rattle.store.proofs.counts_at.Tie as tie
 
 mul-row : tie.Need-mul-row
 mul-row c = search needs
@@ -20,7 +20,7 @@ array-read-t15 : tie.Need-array-read-t15
 array-read-t15 c = search needs
 
 returns : tie.Need-returns
-unfolding counts-at
+unfolding counts-at counted-row
 returns c = search needs
 
 pub counts-at-spec : {M : Type 1} → statement M
