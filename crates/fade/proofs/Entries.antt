@@ -1,9 +1,11 @@
 -- The test of a table's entry, which antt computes, and what an entry that passes it is. Assumes nothing.
 use mathlib.Core.Path.{_≡_, refl, sym, ap, ap₂, _∙_, subst}
 use mathlib.Core.Bool.{Bool, false, not}
-use Prim.Native.Nat.{ℕ, zero, suc, _+_, _*_, _^_, _≤_}
-use native.Mathlib.Nat.{add-zero, add-suc, suc-add, zero-add, pow-suc, pow-zero}
+use mathlib.Core.List.{List}
+use Prim.Native.Nat.{ℕ, zero, suc, _+_, _*_, _/_, _%_, _^_, _≤_, _<_}
+use native.Mathlib.Nat.{add-zero, add-suc, suc-add, zero-add, pow-suc, pow-zero, div-add-mod, mod-lt}
 use lib.Dec.{T, leb, eqb, leb→le, eqb→eq}
+use lib.ListN.{getD}
 use lib.Ieee.{Float, nan, inf, fin, binary64, round, toBits, ofBits, isNan, nanBits}
 use lib.Ieee.Fits.{round-fits}
 use lib.Ieee.Bits.{ofBits-toBits, nanBits-is}
@@ -112,12 +114,16 @@ reads k q p w h = sym (entry k q p w h .rounded .low)
 pub entry-at : (k q p w : ℕ) → T (good k q p w) → Entry k q p (nearest p q)
 entry-at k q p w h = subst (Entry k q p) (reads k q p w h) (entry k q p w h)
 
--- ---- it is no NaN's pattern
+-- ---- the entry p of a table that stands in rows of w is entry p % w of the row p / w
+pub in-row : (w q p : ℕ) (row : List ℕ) → 0 < w → ((j : ℕ) → j < w → ofBits binary64 (getD row j 0) ≡ nearest (w * (p / w) + j) q) → ofBits binary64 (getD row (p % w) 0) ≡ nearest p q
+in-row w q p row z h = h (p % w) (mod-lt p z) ∙ ap (λ (m : ℕ). nearest m q) (div-add-mod p w)
+
+-- ---- no pattern of it is a NaN's
 pub positive-number : (x : Float) → T (positive x) → T (not (isNan x))
 unfolding isNan
 positive-number nan p = absurd p
 positive-number (inf s) p = tt
 positive-number (fin s m e) p = tt
 
-pub no-nan : (k q p w : ℕ) → T (good k q p w) → T (not (nanBits binary64 w))
-no-nan k q p w h = subst (λ (b : Bool). T (not b)) (sym (nanBits-is binary64 w)) (positive-number (ofBits binary64 w) (entry k q p w h .rounded .above))
+pub no-nan : (k q p w v : ℕ) → T (good k q p w) → ofBits binary64 v ≡ nearest p q → T (not (nanBits binary64 v))
+no-nan k q p w v h e = subst (λ (b : Bool). T (not b)) (sym (nanBits-is binary64 v)) (rw e (positive-number (nearest p q) (entry-at k q p w h .rounded .above)))

@@ -8,7 +8,6 @@ use native.Mathlib.Decide.{decLe}
 use borrow.Author.Tests.{lt-ltb, le-ltb}
 use lib.IntN.{pos}
 use lib.Dec.{T, ltb, lit≤, lit<}
-use lib.ListN.{getD}
 use lib.Ieee.{fin, binary64, mul, lt, fits, isNan}
 use lib.Ieee.Fits.{cond-fits, mul-fits}
 use Rattle.fade.specs.Fade.{nearest, long, end, fade}
@@ -31,10 +30,10 @@ after d h = unfold fade in rw (le-ltb d end h)
 
 -- ---- the entries
 short : (r : ℕ) → r < 2000 → Entry A.least 2000 r (nearest r 2000)
-short r h = entry-at A.least 2000 r (getD A.table r 0) (A.passes r h)
+short r h = entry-at A.least 2000 r (A.entry r) (A.passes r h)
 
 far : (q : ℕ) → q < long → Entry B.least 1 q (nearest q 1)
-far q h = entry-at B.least 1 q (getD B.table q 0) (B.passes q h)
+far q h = entry-at B.least 1 q (B.entry q) (B.passes q h)
 
 row : (d : ℕ) → d < end → d / 2000 < long
 row d h = omega arith

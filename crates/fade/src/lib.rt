@@ -10,7 +10,8 @@ fn short(r: u64) -> f64
     requires { ⌜ r < 2000 ⌝ }
     ensures { λ x. ⌜ x ≡ spec.nearest r 2000 ⌝ }
 {
-    f64::from_bits(tables::A[r as usize])
+    let row = tables::row_of_a(r / tables::WIDTH_A);
+    f64::from_bits(row[(r % tables::WIDTH_A) as usize])
 }
 
 // Entry q of B: the double nearest exp(-q).
@@ -18,7 +19,8 @@ fn far(q: u64) -> f64
     requires { ⌜ q < spec.long ⌝ }
     ensures { λ x. ⌜ x ≡ spec.nearest q 1 ⌝ }
 {
-    f64::from_bits(tables::B[q as usize])
+    let row = tables::row_of_b(q / tables::WIDTH_B);
+    f64::from_bits(row[(q % tables::WIDTH_B) as usize])
 }
 
 pub fn fade(d: u64) -> f64

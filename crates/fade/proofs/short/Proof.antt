@@ -1,11 +1,15 @@
--- `fade::short` meets its contract: the entry has passed its test, so it is the pattern of the nearest double. Assumes nothing.
-use Prim.Native.Nat.{ℕ}
-use lib.ListN.{getD}
+-- `fade::short` meets its contract: the row that it reads has the nearest doubles. Assumes nothing.
+use Prim.Native.Nat.{ℕ, _%_}
 use borrow.Author.Needs.{needs}
-use Rattle.fade.proofs.Entries.{reads, no-nan}
-use Rattle.fade.proofs.TableA.{table, least, passes}
+use lib.Dec.{lit<}
+use lib.ListN.{getD}
+use Rattle.fade.proofs.Entries.{in-row, no-nan}
+use Rattle.fade.proofs.TableA.{least, width, entry, passes}
 use Rattle.fade.proofs.short.Statement.{statement}
 use Rattle.fade.proofs.short.Tie as tie
+
+row-of-a-requires : tie.Need-row-of-a-requires
+row-of-a-requires c κs = search needs
 
 mul-result : tie.Need-mul-result
 mul-result c = search needs
@@ -13,13 +17,11 @@ mul-result c = search needs
 array-read-result : tie.Need-array-read-result
 array-read-result c = search needs
 
-float-from-bits-result : tie.Need-float-from-bits-result
-unfolding table
-float-from-bits-result c = let r : ℕ = c .args .r in no-nan least 2000 r (getD table r 0) (passes r (c .pre))
-
 returns : tie.Need-returns
-unfolding table
-returns c = let r : ℕ = c .args .r in reads least 2000 r (getD table r 0) (passes r (c .pre))
+returns c = in-row width 2000 (c .before .args .r) (c .row-of-a .result) (lit< tt) (c .row-of-a .ensures)
+
+float-from-bits-result : tie.Need-float-from-bits-result
+float-from-bits-result c = let p : ℕ = c .before .args .r in no-nan least 2000 p (entry p) (getD (c .row-of-a .result) (p % width) 0) (passes p (c .before .pre)) (returns c)
 
 pub short-spec : {M : Type 1} → statement M
-short-spec = tie.close (tie.spec mul-result array-read-result float-from-bits-result returns)
+short-spec = tie.close (tie.spec row-of-a-requires mul-result array-read-result float-from-bits-result returns)
