@@ -17,6 +17,7 @@ use Rattle.flow.specs.declared.Outcome.{Outcome}
 use Rattle.flow.specs.declared.Verdict.{Verdict}
 use Rattle.sender.specs.declared.Unit as unit
 use Rattle.store.specs.Store as store
+use Rattle.counted.specs.Counted as counts
 use Rattle.store.specs.Store.{Rows, rows}
 use Rattle.head.specs.declared.Shedder.{Shedder}
 use Rattle.head.specs.declared.Flow.{Flow}
@@ -190,7 +191,7 @@ module _ (room : ℕ) (rate : List ℕ) where
 
   pub tallied-bound : (h : Shedder) (rows : List (List ℕ)) (u : unit.Unit) (c r : ℕ) (m : Rows) (st : S) (clk : ℕ) → Bound room rate h m st clk → Bound room rate (shed.tallied (shed.tally h rows) (sender.words-of u) c r .head) m st clk
   unfolding shed.tallied
-  tallied-bound h rows u c r m st clk b = counted-bound h (store.pruned (store.count rows (h .counted) (sender.words-of u) c) .count) c r m st clk b
+  tallied-bound h rows u c r m st clk b = counted-bound h (counts.pruned (counts.count rows (h .counted) (sender.words-of u) c) .count) c r m st clk b
 
   told-bound : (h : Shedder) (rows : List (List ℕ)) (u : unit.Unit) (v : Verdict) (cost : List ℕ) (m : Rows) (st : S) (clk : ℕ) → Bound room rate h m st clk → Bound room rate (shed.told (shed.tally h rows) (sender.words-of u) v cost .head) m st clk
   unfolding shed.told

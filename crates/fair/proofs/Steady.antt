@@ -16,8 +16,10 @@ use Rattle.sender.specs.declared.Unit as unit
 use Rattle.sender.specs.declared.Words.{Words}
 use Rattle.sender.specs.Sender as sender
 use Rattle.store.specs.Store as store
-use Rattle.store.specs.Store.{Rows, Sources, sources}
-use Rattle.store.proofs.Pruning.{prune-none, prune-next, frees-so}
+use Rattle.counted.specs.Counted as counts
+use Rattle.store.specs.Store.{Rows}
+use Rattle.counted.specs.Counted.{Sources, sources}
+use Rattle.counted.proofs.Pruning.{prune-none, prune-next, frees-so}
 use Rattle.wants.specs.Wants as wants
 use Rattle.wants.specs.Wants.{Hist}
 use Rattle.head.specs.declared.Shedder.{Shedder}
@@ -26,57 +28,57 @@ use Rattle.fair.specs.Given as shed
 use Rattle.fair.specs.Given.{Memory, memory}
 
 -- ---- counted sources
-up-long : (rows : List (List ℕ)) (i c : ℕ) → length (store.counted-up rows i c) ≡ length rows
-unfolding store.counted-up
+up-long : (rows : List (List ℕ)) (i c : ℕ) → length (counts.counted-up rows i c) ≡ length rows
+unfolding counts.counted-up
 up-long rows i c = length-set rows i _
 
-add-long : (rows : List (List ℕ)) (i : ℕ) (w : Words) → length (store.counted-add rows i w) ≡ length rows
-unfolding store.counted-add
+add-long : (rows : List (List ℕ)) (i : ℕ) (w : Words) → length (counts.counted-add rows i w) ≡ length rows
+unfolding counts.counted-add
 add-long rows i w = length-set rows i _
 
 pub record Kept (size : ℕ) (s : Sources) : Type 0 where
   pub long : length (s .rows) ≡ size
   pub few : s .count ≤ size
 
-count-kept : (rows : List (List ℕ)) (n : ℕ) (w : Words) (c : ℕ) → n < length rows → Kept (length rows) (store.count rows n w c)
-unfolding store.count
-count-kept rows n w c h = go (ltb (store.counted-find rows w n) n)
+count-kept : (rows : List (List ℕ)) (n : ℕ) (w : Words) (c : ℕ) → n < length rows → Kept (length rows) (counts.count rows n w c)
+unfolding counts.count
+count-kept rows n w c h = go (ltb (counts.counted-find rows w n) n)
   where
-    go : (b : Bool) → Kept (length rows) (store.choose b (sources n (store.counted-up rows (store.counted-find rows w n) c)) (sources (n + 1) (store.counted-up (store.counted-add rows n w) n c)))
-    go true = record { long = up-long rows (store.counted-find rows w n) c; few = omega arith }
-    go false = record { long = up-long (store.counted-add rows n w) n c ∙ add-long rows n w; few = omega arith }
+    go : (b : Bool) → Kept (length rows) (counts.choose b (sources n (counts.counted-up rows (counts.counted-find rows w n) c)) (sources (n + 1) (counts.counted-up (counts.counted-add rows n w) n c)))
+    go true = record { long = up-long rows (counts.counted-find rows w n) c; few = omega arith }
+    go false = record { long = up-long (counts.counted-add rows n w) n c ∙ add-long rows n w; few = omega arith }
 
-one-long : (s : Sources) (k i : ℕ) → length (store.prune-one s k i .rows) ≡ length (s .rows)
-unfolding store.prune-one
-one-long s k i = go (ltb k (store.total-at (s .rows) i))
+one-long : (s : Sources) (k i : ℕ) → length (counts.prune-one s k i .rows) ≡ length (s .rows)
+unfolding counts.prune-one
+one-long s k i = go (ltb k (counts.total-at (s .rows) i))
   where
-    go : (b : Bool) → length (store.choose b (sources (s .count + 1) (set (set (s .rows) i (replicate 8 0)) (s .count) (store.counted-row (s .rows) i))) (sources (s .count) (set (s .rows) i (replicate 8 0))) .rows) ≡ length (s .rows)
+    go : (b : Bool) → length (counts.choose b (sources (s .count + 1) (set (set (s .rows) i (replicate 8 0)) (s .count) (counts.counted-row (s .rows) i))) (sources (s .count) (set (s .rows) i (replicate 8 0))) .rows) ≡ length (s .rows)
     go true = length-set (set (s .rows) i (replicate 8 0)) (s .count) _ ∙ length-set (s .rows) i _
     go false = length-set (s .rows) i _
 
-prune-long : (rows : List (List ℕ)) (k n : ℕ) → n ≤ length rows → length (store.prune rows k n .rows) ≡ length rows
+prune-long : (rows : List (List ℕ)) (k n : ℕ) → n ≤ length rows → length (counts.prune rows k n .rows) ≡ length rows
 prune-long rows k zero h = ap (λ (s : Sources). length (s .rows)) (prune-none rows k)
 prune-long rows k (suc n) h =
-    let e : store.prune rows k (suc n) ≡ store.prune-one (store.prune rows k n) k n = rw add-one at (prune-next rows k n (omega arith)) in
-    ap (λ (s : Sources). length (s .rows)) e ∙ one-long (store.prune rows k n) k n ∙ prune-long rows k n (omega arith)
+    let e : counts.prune rows k (suc n) ≡ counts.prune-one (counts.prune rows k n) k n = rw add-one at (prune-next rows k n (omega arith)) in
+    ap (λ (s : Sources). length (s .rows)) e ∙ one-long (counts.prune rows k n) k n ∙ prune-long rows k n (omega arith)
 
 pub record Freed (size : ℕ) (s : Sources) : Type 0 where
   pub long : length (s .rows) ≡ size
   pub few : s .count < size
 
-pruned-freed : (size : ℕ) (s : Sources) → 0 < size → Kept size s → Freed size (store.pruned s)
-unfolding store.pruned
+pruned-freed : (size : ℕ) (s : Sources) → 0 < size → Kept size s → Freed size (counts.pruned s)
+unfolding counts.pruned
 pruned-freed size s z k = go (ltb (s .count) (length (s .rows))) refl
   where
-    go : (b : Bool) → ltb (s .count) (length (s .rows)) ≡ b → Freed size (store.choose b s (store.prune (s .rows) (store.keep-from (store.totals (s .rows) (s .count))) (s .count)))
+    go : (b : Bool) → ltb (s .count) (length (s .rows)) ≡ b → Freed size (counts.choose b s (counts.prune (s .rows) (counts.keep-from (counts.totals (s .rows) (s .count))) (s .count)))
     go true e = record { long = k .long; few = omega (arith, ltb-true (s .count) (length (s .rows)) e, k .long) }
     go false e =
         let l : length (s .rows) ≤ s .count = ltb-false (s .count) (length (s .rows)) e in
-        let p = store.prune (s .rows) (store.keep-from (store.totals (s .rows) (s .count))) (s .count) in
+        let p = counts.prune (s .rows) (counts.keep-from (counts.totals (s .rows) (s .count))) (s .count) in
         let m : s .count ≤ length (s .rows) = omega (arith, k .few, k .long) in
         record {
-          long = prune-long (s .rows) (store.keep-from (store.totals (s .rows) (s .count))) (s .count) m ∙ k .long;
-          few = omega (arith, frees-so (s .rows) (p .rows) (s .count) (store.keep-from (store.totals (s .rows) (s .count))) (p .count) refl refl (omega (arith, k .long)) m, k .few);
+          long = prune-long (s .rows) (counts.keep-from (counts.totals (s .rows) (s .count))) (s .count) m ∙ k .long;
+          few = omega (arith, frees-so (s .rows) (p .rows) (s .count) (counts.keep-from (counts.totals (s .rows) (s .count))) (p .count) refl refl (omega (arith, k .long)) m, k .few);
         }
 
 -- ---- the head: its stamps are not past the clock, its tables add up, a counted row is free
@@ -167,8 +169,8 @@ module _ (size : ℕ) where
   pub tallied-fine : (h : Shedder) (k : List (List ℕ)) (w : Words) (c r : ℕ) (clk : ℕ) → Fine size h clk → length k ≡ size → Tallied (shed.tallied (shed.tally h k) w c r) clk
   unfolding shed.tallied shed.added
   tallied-fine h k w c r clk f l =
-      let p : Freed size (store.pruned (store.count k (h .counted) w c)) =
-      pruned-freed size (store.count k (h .counted) w c) (omega (arith, f .few)) (subst (λ (n : ℕ). Kept n (store.count k (h .counted) w c)) l (count-kept k (h .counted) w c (omega (arith, f .few)))) in
+      let p : Freed size (counts.pruned (counts.count k (h .counted) w c)) =
+      pruned-freed size (counts.count k (h .counted) w c) (omega (arith, f .few)) (subst (λ (n : ℕ). Kept n (counts.count k (h .counted) w c)) l (count-kept k (h .counted) w c (omega (arith, f .few)))) in
       record { fine = record { clock = f .clock; at = f .at; began = f .began; read = f .read; tables = f .tables; room = f .room; few = p .few }; long = p .long }
 
   pub told-fine : (h : Shedder) (k : List (List ℕ)) (w : Words) (v : Verdict) (cost : List ℕ) (clk : ℕ) → Fine size h clk → length k ≡ size → Tallied (shed.told (shed.tally h k) w v cost) clk

@@ -9,7 +9,7 @@ use native.Mathlib.Omega.{arith}
 use borrow.Author.Tests.{ltb-true, ltb-false, lt-ltb, le-ltb, eq-eqb, ne-eqb, eqb-true, eqb-false}
 use lib.Dec.{eqb, ltb}
 use Rattle.text.specs.Order.{less}
-use Rattle.store.specs.Store.{total-at}
+use Rattle.counted.specs.Counted.{total-at}
 use Rattle.report.specs.Sources.{label-at, label-precedes, precedes}
 use Rattle.report.specs.Laws.{Before, Order}
 

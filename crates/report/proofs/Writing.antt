@@ -17,7 +17,7 @@ use Rattle.sender.specs.declared.Unit.{Unit}
 use Rattle.label.specs.Label.{label}
 use Rattle.head.specs.declared.Shedder.{Shedder}
 use Rattle.head.specs.Questions.{is-unbounded}
-use Rattle.store.specs.Store.{counts-at}
+use Rattle.counted.specs.Counted.{counts-at}
 use Rattle.report.specs.Sources.{unit-at, first-after, named, better, reported}
 use Rattle.report.specs.Lines.{rate, ceiling, active, receiver-ceiling, over-share, relay-rate, source, space, line-feed, numbers, line, rates-line, cause-line, source-line, source-lines, head-lines, text}
 

@@ -6,7 +6,7 @@ use mathlib.Core.Logic.{_⊎_}
 use mathlib.Core.List.{List}
 use lib.ListN.{length, getD}
 use Rattle.text.specs.Order.{less}
-use Rattle.store.specs.Store.{total-at}
+use Rattle.counted.specs.Counted.{total-at}
 use Rattle.report.specs.Sources.{label-at, precedes, reported}
 
 -- document 01's words: larger total first, then label by bytes, then store order

@@ -8,7 +8,7 @@ use Rattle.text.specs.Number.{decimal}
 use Rattle.flow.specs.Flow.{dims}
 use Rattle.head.specs.declared.Shedder.{Shedder}
 use Rattle.head.specs.Questions.{is-unbounded}
-use Rattle.store.specs.Store.{counts-at}
+use Rattle.counted.specs.Counted.{counts-at}
 use Rattle.report.specs.Sources.{label-at, reported}
 
 -- ---- the words, in ASCII

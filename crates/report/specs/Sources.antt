@@ -7,7 +7,8 @@ use Rattle.text.specs.Order.{less}
 use Rattle.sender.specs.declared.Unit.{Unit}
 use Rattle.sender.specs.Sender.{unit-of}
 use Rattle.label.specs.Label.{label}
-use Rattle.store.specs.Store.{words-at, total-at}
+use Rattle.store.specs.Store.{words-at}
+use Rattle.counted.specs.Counted.{total-at}
 
 -- ---- a counted source: its unit and its label
 unfoldable pub unit-at : List (List ℕ) → ℕ → Unit

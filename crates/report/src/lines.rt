@@ -89,7 +89,7 @@ fn put_source(out: &mut [u8], at: usize, counted: &[[u64; 8]], i: usize) -> usiz
     requires { ⌜ i < length (now counted) ⌝ }
     ensures { λ r. ⌜ page (now (out .exit)) r ≡ writes (page (now (out .entry)) at) (lines.source-line (now (counted .entry)) i) ⌝ }
 {
-    let counts = store::counts_at(counted, i);
+    let counts = counted::counts_at(counted, i);
     let word = put(out, at, b"source");
     let space = text::put_byte(out, word, b' ');
     let label = write_label(unit_at(counted, i), out, space);

@@ -10,14 +10,14 @@ ghost use Rattle.report.specs.Sources as sources;
 use label::label_less;
 use sender::PublicKey;
 use sender::Unit;
-use store::total_at;
+use counted::total_at;
 
 // The unit of a counted source.
 pub fn unit_at(counted: &[[u64; 8]], i: usize) -> Unit
     requires { ⌜ i < length (now counted) ⌝ }
     ensures { λ r. ⌜ r ≡ sources.unit-at (now (counted .entry)) i ⌝ }
 {
-    sender::unit_of(store::counted_words(counted, i))
+    sender::unit_of(counted::counted_words(counted, i))
 }
 
 // Whether 16 hexadecimal digits of x, and a text behind them, stand before those of y and another text; rest tells

@@ -14,8 +14,10 @@ use Rattle.sender.specs.declared.Unit.{Unit}
 use Rattle.sender.specs.declared.Words.{Words}
 use Rattle.sender.specs.Sender.{words-of, name-of, is-overflow}
 use Rattle.store.specs.Store as store
-use Rattle.store.specs.Store.{Rows, Sources, sources, find, counted-find, counted-up, counted-add}
-use Rattle.store.proofs.Pruning.{frees}
+use Rattle.counted.specs.Counted as counts
+use Rattle.store.specs.Store.{Rows, find}
+use Rattle.counted.specs.Counted.{Sources, sources, counted-find, counted-up, counted-add}
+use Rattle.counted.proofs.Pruning.{frees}
 use Rattle.head.specs.declared.Shedder.{Shedder}
 use Rattle.head.specs.declared.Cause.{Cause}
 use Rattle.head.specs.Numbers.{choose}
@@ -78,30 +80,30 @@ handed-whole h m u cost w = record {
 }
 
 -- ---- the counts: a row is left free
-sources-all : (b : Bool) (x y : Sources) (P : Sources → Type 0) → (b ≡ true → P x) → (b ≡ false → P y) → P (store.choose b x y)
+sources-all : (b : Bool) (x y : Sources) (P : Sources → Type 0) → (b ≡ true → P x) → (b ≡ false → P y) → P (counts.choose b x y)
 sources-all true x y P p q = p refl
 sources-all false x y P p q = q refl
 
-count-held : (rows : List (List ℕ)) (n : ℕ) (w : Words) (cause : ℕ) → store.count rows n w cause .count ≤ n + 1
-unfolding store.count
+count-held : (rows : List (List ℕ)) (n : ℕ) (w : Words) (cause : ℕ) → counts.count rows n w cause .count ≤ n + 1
+unfolding counts.count
 count-held rows n w cause = sources-all (ltb (counted-find rows w n) n) _ _ (λ (s : Sources). s .count ≤ n + 1) (λ e. omega arith) (λ e. omega arith)
 
 up-length : (rows : List (List ℕ)) (i cause : ℕ) → length (counted-up rows i cause) ≡ length rows
 unfolding counted-up
-up-length rows i cause = length-set rows i (set (store.counted-row rows i) (5 + cause) ((getD (store.counted-row rows i) (5 + cause) 0 + 1) % 2 ^ 64))
+up-length rows i cause = length-set rows i (set (counts.counted-row rows i) (5 + cause) ((getD (counts.counted-row rows i) (5 + cause) 0 + 1) % 2 ^ 64))
 
 add-length : (rows : List (List ℕ)) (i : ℕ) (w : Words) → length (counted-add rows i w) ≡ length rows
 unfolding counted-add
 add-length rows i w = length-set rows i (w .kind ∷ w .a ∷ w .b ∷ w .c ∷ w .d ∷ 0 ∷ 0 ∷ 0 ∷ [])
 
-count-length : (rows : List (List ℕ)) (n : ℕ) (w : Words) (cause : ℕ) → length (store.count rows n w cause .rows) ≡ length rows
-unfolding store.count
+count-length : (rows : List (List ℕ)) (n : ℕ) (w : Words) (cause : ℕ) → length (counts.count rows n w cause .rows) ≡ length rows
+unfolding counts.count
 count-length rows n w cause =
     sources-all (ltb (counted-find rows w n) n) (sources n (counted-up rows (counted-find rows w n) cause)) (sources (n + 1) (counted-up (counted-add rows n w) n cause)) (λ (s : Sources). length (s .rows) ≡ length rows)
     (λ e. up-length rows (counted-find rows w n) cause) (λ e. up-length (counted-add rows n w) n cause ∙ add-length rows n w)
 
-pruned-held : (s : Sources) (c : ℕ) → s .count ≤ c → length (s .rows) ≡ c → 2 ≤ c → store.pruned s .count < c
-unfolding store.pruned
+pruned-held : (s : Sources) (c : ℕ) → s .count ≤ c → length (s .rows) ≡ c → 2 ≤ c → counts.pruned s .count < c
+unfolding counts.pruned
 pruned-held s c p e q =
     sources-all (ltb (s .count) (length (s .rows))) s _ (λ (t : Sources). t .count < c)
     (λ y. omega (arith, ltb-true (s .count) (length (s .rows)) y, e))
@@ -122,7 +124,7 @@ tallied-whole h k u cause receptions w e = record {
   counted-most = w .counted-most;
   tracked-held = w .tracked-held;
   counted-held =
-      pruned-held (store.count k (h .counted) u cause) (h .«counted_room») (omega (arith, count-held k (h .counted) u cause, w .counted-held))
+      pruned-held (counts.count k (h .counted) u cause) (h .«counted_room») (omega (arith, count-held k (h .counted) u cause, w .counted-held))
       (count-length k (h .counted) u cause ∙ e) (w .counted-least);
 }
 

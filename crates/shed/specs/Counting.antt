@@ -7,6 +7,7 @@ use Rattle.flow.specs.declared.Verdict.{Verdict}
 use Rattle.flow.specs.declared.Verdict.the-variants as verdict
 use Rattle.sender.specs.declared.Words.{Words}
 use Rattle.store.specs.Store as store
+use Rattle.counted.specs.Counted as counts
 use Rattle.head.specs.declared.Shedder.{Shedder}
 use Rattle.head.specs.Numbers.{choose}
 
@@ -43,12 +44,12 @@ pub record Tally : Type 0 where
 abbrev pub tally : Shedder → List (List ℕ) → Tally
 tally h rows = record { head = h; counted = rows }
 
-abbrev pub tallied-with : Shedder → ℕ → ℕ → store.Sources → Tally
+abbrev pub tallied-with : Shedder → ℕ → ℕ → counts.Sources → Tally
 tallied-with h cause receptions n = tally (added h (n .count) cause receptions) (n .rows)
 
 -- a cut is counted under the unit named; then the least counted go where the spare row was taken
 unfoldable pub tallied : Tally → Words → ℕ → ℕ → Tally
-tallied t w cause receptions = tallied-with (t .head) cause receptions (store.pruned (store.count (t .counted) (t .head .counted) w cause))
+tallied t w cause receptions = tallied-with (t .head) cause receptions (counts.pruned (counts.count (t .counted) (t .head .counted) w cause))
 
 -- a verdict that cuts is counted
 unfoldable pub told : Tally → Words → Verdict → List ℕ → Tally

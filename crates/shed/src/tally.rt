@@ -70,8 +70,8 @@ pub fn tallied(
     ensures { λ r. ⌜ r .tracked ≡ h .tracked ⌝ }
     ensures { λ r. ⌜ r .scan ≡ h .scan ⌝ }
 {
-    let n = store::count(counted, h.counted, w, cause);
-    let kept = store::pruned(counted, n);
+    let n = counted::count(counted, h.counted, w, cause);
+    let kept = counted::pruned(counted, n);
     added(h, kept, cause, receptions)
 }
 

@@ -1,10 +1,9 @@
 -- Rows of lent memory: where a record's parts lie, finding, adding, and dropping the stale of one table. Definitions only.
-use Prim.Native.Nat.{ℕ, zero, suc, _+_, _-_, _/_, _%_, _^_}
+use Prim.Native.Nat.{ℕ, zero, suc, _+_, _-_}
 use mathlib.Core.Bool.{Bool, true, false, cond, not}
-use mathlib.Core.List.{List, [], _∷_, _++_, map}
+use mathlib.Core.List.{List, [], _∷_}
 use lib.Dec.{eqb, ltb}
-use lib.ListN.{length, getD, set, replicate, take, drop}
-use lib.Ieee as Ieee
+use lib.ListN.{getD, set, replicate}
 use lib.Ieee.{Float}
 use Rattle.flow.specs.Flow as flow
 use Rattle.flow.specs.Flow.{nothing, at, upto}
@@ -12,7 +11,6 @@ use Rattle.flow.specs.declared.Use.{Use}
 use Rattle.sender.specs.declared.Name.{Name}
 use Rattle.sender.specs.declared.Words.{Words}
 use Rattle.sender.specs.Sender as sender
-use Rattle.store.specs.Sorted.{sorted}
 
 abbrev pub dims : ℕ
 dims = flow.dims
@@ -143,88 +141,3 @@ retain-one k table now i =
 unfoldable pub retained : Rows → ℕ → ℕ → ℕ → Kept
 retained m table now zero = kept 0 m
 retained m table now (suc n) = retain-one (retained m table now n) table now n
-
--- ---- counted sources: kind, four words, three counts
-abbrev pub counted-row : List (List ℕ) → ℕ → List ℕ
-counted-row rows i = getD rows i []
-
-unfoldable pub counted-is : List (List ℕ) → Words → ℕ → Bool
-counted-is rows w i = same (words-at rows i) w
-
-unfoldable pub counted-find : List (List ℕ) → Words → ℕ → ℕ
-counted-find rows w n = first (counted-is rows w) n
-
--- one more for a cause, modulo 2^64
-unfoldable pub counted-up : List (List ℕ) → ℕ → ℕ → List (List ℕ)
-counted-up rows i cause = set rows i (set (counted-row rows i) (5 + cause) ((getD (counted-row rows i) (5 + cause) 0 + 1) % 2 ^ 64))
-
--- a source that is counted for nothing yet
-unfoldable pub counted-add : List (List ℕ) → ℕ → Words → List (List ℕ)
-counted-add rows i w = set rows i (w .kind ∷ w .a ∷ w .b ∷ w .c ∷ w .d ∷ 0 ∷ 0 ∷ 0 ∷ [])
-
--- so many sources, and the rows
-pub record Sources : Type 0 where
-  pub count : ℕ
-  pub rows : List (List ℕ)
-
-abbrev pub sources : ℕ → List (List ℕ) → Sources
-sources n rows = record { count = n; rows = rows }
-
-abbrev pub choose : Bool → Sources → Sources → Sources
-choose true a b = a
-choose false a b = b
-
--- of n sources the unit's is counted for a cause once more; it is added at the end where it is not among them
-unfoldable pub count : List (List ℕ) → ℕ → Words → ℕ → Sources
-count rows n w cause =
-    choose (ltb (counted-find rows w n) n) (sources n (counted-up rows (counted-find rows w n) cause)) (sources (n + 1) (counted-up (counted-add rows n w) n cause))
-
--- ---- leaving out the least counted
--- a source's total: the sum of its three counts, modulo 2^64
-unfoldable pub total : List ℕ → ℕ
-total row = (getD row 5 0 + getD row 6 0 + getD row 7 0) % 2 ^ 64
-
--- its counts of receiver-ceiling, over-share and relay-rate
-unfoldable pub counts-at : List (List ℕ) → ℕ → List ℕ
-counts-at rows i = getD (counted-row rows i) 5 0 ∷ getD (counted-row rows i) 6 0 ∷ getD (counted-row rows i) 7 0 ∷ []
-
-unfoldable pub total-at : List (List ℕ) → ℕ → ℕ
-total-at rows i = total (counted-row rows i)
-
--- the totals of the first n sources
-unfoldable pub totals : List (List ℕ) → ℕ → List ℕ
-totals rows n = map total (take n rows)
-
--- of the ascending totals the one at index length / 4
-unfoldable pub keep-from : List ℕ → ℕ
-keep-from l = getD (sorted l) (length l / 4) 0
-
-abbrev pub select : Bool → List (List ℕ) → List (List ℕ) → List (List ℕ)
-select true a b = a
-select false a b = b
-
--- the sources whose total is above k, in their order
-unfoldable pub above : ℕ → List (List ℕ) → List (List ℕ)
-above k [] = []
-above k (row ∷ rows) = select (ltb k (total row)) (row ∷ above k rows) (above k rows)
-
-abbrev pub free : List ℕ
-free = replicate 8 0
-
--- the kept sources in front, freed places up to n, and the rows behind n as they were
-abbrev pub left : List (List ℕ) → ℕ → List (List ℕ) → Sources
-left kept n behind = sources (length kept) (kept ++ (replicate (n - length kept) free ++ behind))
-
--- of the first n sources those above k remain
-unfoldable pub prune : List (List ℕ) → ℕ → ℕ → Sources
-prune rows k n = left (above k (take n rows)) n (drop n rows)
-
--- one source more: moved to the end of those kept where its total is above k, else freed
-unfoldable pub prune-one : Sources → ℕ → ℕ → Sources
-prune-one s k i =
-    choose (ltb k (total-at (s .rows) i)) (sources (s .count + 1) (set (set (s .rows) i free) (s .count) (counted-row (s .rows) i)))
-    (sources (s .count) (set (s .rows) i free))
-
--- where every row is taken, the spare one too, only totals above k remain
-unfoldable pub pruned : Sources → Sources
-pruned s = choose (ltb (s .count) (length (s .rows))) s (prune (s .rows) (keep-from (totals (s .rows) (s .count))) (s .count))

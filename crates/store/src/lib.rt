@@ -1,11 +1,10 @@
-// Rows of lent memory: a unit's record, and a counted source's.
+// Rows of lent memory: a unit's record.
 ghost use mathlib.Core.Path.{_≡_};
 ghost use Prim.Native.Nat.{_<_, _≤_, _+_};
 ghost use lib.ListN.{length};
 ghost use Rattle.store.specs.Store as store;
 
 mod floats;
-mod totals;
 
 use floats::joined;
 use floats::mark;
@@ -14,8 +13,6 @@ use flow::DIMS;
 use flow::Use;
 use sender::Name;
 use sender::Words;
-use totals::keep_from;
-pub use totals::total_at;
 
 // ---- a record: a hash, a row of the unit's words, stamp and fresh mark, and a row of floats
 
@@ -98,7 +95,7 @@ pub fn add(
 // ---- find
 
 // The same unit: raw words are compared, so that a row of any bits is only itself.
-fn same(v: Words, w: Words) -> bool
+pub fn same(v: Words, w: Words) -> bool
     ensures { λ r. ⌜ r ≡ store.same v w ⌝ }
 {
     if v.kind != w.kind {
@@ -281,134 +278,4 @@ pub fn retain(
         i += 1;
     }
     j
-}
-
-// ---- counted sources: kind, four words, three counts
-
-pub fn counted_words(counted: &[[u64; 8]], i: usize) -> Words
-    requires { ⌜ i < length (now counted) ⌝ }
-    ensures { λ r. ⌜ r ≡ store.words-at (now (counted .entry)) i ⌝ }
-{
-    let row = counted[i];
-    Words {
-        kind: row[0],
-        a: row[1],
-        b: row[2],
-        c: row[3],
-        d: row[4],
-    }
-}
-
-// A source's counts of receiver-ceiling, over-share and relay-rate.
-pub fn counts_at(counted: &[[u64; 8]], i: usize) -> [u64; 3]
-    requires { ⌜ i < length (now counted) ⌝ }
-    ensures { λ r. ⌜ r ≡ store.counts-at (now (counted .entry)) i ⌝ }
-{
-    let row = counted[i];
-    [row[5], row[6], row[7]]
-}
-
-fn counted_is(counted: &[[u64; 8]], i: usize, w: Words) -> bool
-    requires { ⌜ i < length (now counted) ⌝ }
-    ensures { λ r. ⌜ r ≡ store.counted-is (now (counted .entry)) w i ⌝ }
-{
-    same(counted_words(counted, i), w)
-}
-
-fn counted_find(counted: &[[u64; 8]], n: usize, w: Words) -> usize
-    requires { ⌜ n ≤ length (now counted) ⌝ }
-    ensures { λ r. ⌜ r ≡ store.counted-find (now (counted .entry)) w n ⌝ }
-{
-    let mut i = 0;
-    while i < n {
-        if counted_is(counted, i, w) {
-            return i;
-        }
-        i += 1;
-    }
-    n
-}
-
-// One more for a cause.
-fn counted_up(counted: &mut [[u64; 8]], i: usize, cause: usize)
-    requires { ⌜ i < length (now counted) ⌝ }
-    requires { ⌜ cause < 3 ⌝ }
-    ensures { λ r. ⌜ now (counted .exit) ≡ store.counted-up (now (counted .entry)) i cause ⌝ }
-{
-    let mut row = counted[i];
-    let k = 5 + cause;
-    row[k] = std::num::wrapping_add_u64(row[k], 1);
-    counted[i] = row;
-}
-
-fn counted_add(counted: &mut [[u64; 8]], i: usize, w: Words)
-    requires { ⌜ i < length (now counted) ⌝ }
-    ensures { λ r. ⌜ now (counted .exit) ≡ store.counted-add (now (counted .entry)) i w ⌝ }
-{
-    counted[i] = [w.kind, w.a, w.b, w.c, w.d, 0, 0, 0];
-}
-
-// Of n sources, the unit's count for a cause is one more; how many sources there are then.
-pub fn count(counted: &mut [[u64; 8]], n: usize, w: Words, cause: usize) -> usize
-    requires { ⌜ n < length (now counted) ⌝ }
-    requires { ⌜ cause < 3 ⌝ }
-    ensures { λ r. ⌜ store.sources r (now (counted .exit)) ≡ store.count (now (counted .entry)) n w cause ⌝ }
-    ensures { λ r. ⌜ r ≤ n + 1 ⌝ }
-{
-    let i = counted_find(counted, n, w);
-    if i < n {
-        counted_up(counted, i, cause);
-        return n;
-    }
-    counted_add(counted, n, w);
-    counted_up(counted, n, cause);
-    n + 1
-}
-
-// ---- leaving out the least counted
-
-// The source at i: moved to j, the end of those kept, where its total is above k, else freed.
-fn prune_one(counted: &mut [[u64; 8]], i: usize, j: usize, k: u64) -> usize
-    requires { ⌜ i < length (now counted) ⌝ }
-    requires { ⌜ j ≤ i ⌝ }
-    ensures { λ r. ⌜ store.sources r (now (counted .exit)) ≡ store.prune-one (store.sources j (now (counted .entry))) k i ⌝ }
-    ensures { λ r. ⌜ r ≤ i + 1 ⌝ }
-{
-    let row = counted[i];
-    if k < total_at(counted, i) {
-        counted[i] = [0u64; 8];
-        counted[j] = row;
-        return j + 1;
-    }
-    counted[i] = [0u64; 8];
-    j
-}
-
-// Of n sources those above k stay, in their order; freed places become 0.
-fn prune(counted: &mut [[u64; 8]], n: usize, k: u64) -> usize
-    requires { ⌜ n ≤ length (now counted) ⌝ }
-    ensures { λ r. ⌜ store.sources r (now (counted .exit)) ≡ store.prune (now (counted .entry)) k n ⌝ }
-    ensures { λ r. ⌜ r ≤ n ⌝ }
-{
-    let mut i = 0;
-    let mut j = 0;
-    while i < n {
-        j = prune_one(counted, i, j, k);
-        i += 1;
-    }
-    j
-}
-
-// Where the spare row is taken too, the least counted are left out; then at least one row is free again.
-pub fn pruned(counted: &mut [[u64; 8]], n: usize) -> usize
-    requires { ⌜ n ≤ length (now counted) ⌝ }
-    ensures { λ r. ⌜ store.sources r (now (counted .exit)) ≡ store.pruned (store.sources n (now (counted .entry))) ⌝ }
-    ensures { λ r. ⌜ r ≤ n ⌝ }
-    ensures { λ r. ⌜ (0 < length (now (counted .entry)) → r < length (now (counted .entry))) ⌝ }
-{
-    if n < counted.len() {
-        return n;
-    }
-    let k = keep_from(counted, n);
-    prune(counted, n, k)
 }

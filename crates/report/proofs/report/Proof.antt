@@ -1,5 +1,6 @@
 -- `report` meets its contract: the front part of what `write_report` left. Assumes nothing.
 use Rattle.report.proofs.Asking.{part, part-length}
+use native.Mathlib.Omega.{arith}
 use borrow.Author.Needs.{needs}
 use Rattle.report.proofs.report.Statement.{statement}
 use Rattle.report.proofs.report.Tie as tie
@@ -11,7 +12,7 @@ bytes-requires : tie.Need-bytes-requires
 bytes-requires c κs = search needs
 
 slice-aggregate-result : tie.Need-slice-aggregate-result
-slice-aggregate-result c = part-length (c .before .before .before .before .before .before .before .before .args .head) _ _ _ (c .before .before .before .before .before .before .before .before .args .counted .now) (c .before .before .before .before .before .before .before .before .args .out .now) (c .before .before .before .before .write-report .result) _ (c .before .bytes .result) (c .before .before .before .before .write-report .ensures .0) (c .before .bytes .ensures)
+slice-aggregate-result c = omega (arith, part-length (c .before .before .before .before .before .before .before .before .args .head) _ _ _ (c .before .before .before .before .before .before .before .before .args .counted .now) (c .before .before .before .before .before .before .before .before .args .out .now) (c .before .before .before .before .write-report .result) _ (c .before .bytes .result) (c .before .before .before .before .write-report .ensures .0) (c .before .bytes .ensures))
 
 returns : tie.Need-returns
 returns c = part (c .before .before .before .before .before .before .before .before .args .head) _ _ _ (c .before .before .before .before .before .before .before .before .args .counted .now) (c .before .before .before .before .before .before .before .before .args .out .now) (c .before .before .before .before .write-report .result) _ (c .before .bytes .result) (c .before .before .before .before .write-report .ensures .0) (c .before .bytes .ensures)

@@ -1,0 +1,18 @@
+-- `counted::counted_is` meets its contract. Assumes nothing.
+use borrow.Author.Needs.{needs}
+use Rattle.counted.specs.Counted.{counted-is}
+use Rattle.counted.proofs.counted_is.Statement.{statement}
+use Rattle.counted.proofs.counted_is.Tie as tie
+
+counted-words-requires : tie.Need-counted-words-requires
+counted-words-requires c κs = search needs
+
+same-requires : tie.Need-same-requires
+same-requires c κs = search needs
+
+returns : tie.Need-returns
+unfolding counted-is
+returns c = simp (c .same .ensures, c .before .counted-words .ensures)
+
+pub counted-is-spec : {M : Type 1} → statement M
+counted-is-spec = tie.close (tie.spec counted-words-requires same-requires returns)
