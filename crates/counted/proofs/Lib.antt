@@ -1,4 +1,3 @@
--- Sorted: the entry at a quarter of the sorted totals, by counting. Pruning: which sources stay. Cases: document 01's cases.
+-- Sorted: the entry at a quarter of the sorted totals, by counting. Pruning: which sources stay.
 pub mod Sorted
 pub mod Pruning
-pub mod Cases

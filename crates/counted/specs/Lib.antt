@@ -1,4 +1,3 @@
--- Counted: the rows of counted sources. Sorted: the order of totals. Cases: document 01's cases, stated.
+-- Counted: the rows of counted sources. Sorted: the order of totals.
 pub mod Sorted
 pub mod Counted
-pub mod Cases

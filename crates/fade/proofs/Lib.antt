@@ -1,4 +1,3 @@
-pub mod Cases
 pub mod Cauchy
 pub mod Entries
 pub mod Faded

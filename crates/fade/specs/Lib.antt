@@ -1,4 +1,3 @@
-pub mod Cases
 pub mod Exp
 pub mod Fade
 pub mod Laws

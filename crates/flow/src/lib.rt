@@ -7,6 +7,7 @@ ghost use Rattle.flow.specs.Flow as flow;
 // Receptions and bytes. Every loop, array and law goes over this number.
 pub const DIMS: usize = 2;
 
+#[repr(C)]
 pub struct Bucket {
     pub tokens: f64,
     pub burst: f64,
@@ -14,6 +15,7 @@ pub struct Bucket {
 }
 
 // What a unit attempted (a sum that fades) and what it may still be admitted, as of `at_ms`. `fresh`: nothing of it was judged yet.
+#[repr(C)]
 pub struct Use {
     pub attempted: [f64; DIMS],
     pub credit: [f64; DIMS],

@@ -16,6 +16,7 @@ use flow::Use;
 pub const CAUSES: usize = 3;
 
 // The token buckets, which every judgement takes from in the order stamps come.
+#[repr(C)]
 pub struct Flow {
     pub rate: [u64; DIMS],
     // told to feeders, reported only; a burst is at least so large
@@ -28,6 +29,7 @@ pub struct Flow {
 }
 
 // The scan that finds the level again, a few tables at a time.
+#[repr(C)]
 pub struct Scan {
     // tables still to visit, none between scans; and the next one
     pub remaining: usize,
@@ -43,6 +45,7 @@ pub struct Scan {
 }
 
 // The head: all of the shedder that is not lent memory. A capacity is that of the memory lent at the start.
+#[repr(C)]
 pub struct Shedder {
     pub flow: Flow,
     pub overflow: Use,

@@ -1,4 +1,3 @@
--- Label: the text of a unit's name. Parse: which texts are labels, and of which unit. LabelCases: document 01's case, stated.
+-- Label: the text of a unit's name. Parse: which texts are labels, and of which unit.
 pub mod Label
 pub mod Parse
-pub mod LabelCases

@@ -7,10 +7,10 @@ ghost use Rattle.text.specs.Number.{word};
 ghost use Rattle.text.specs.Order.{less};
 ghost use Rattle.label.specs.Label.{key-label};
 ghost use Rattle.report.specs.Sources as sources;
+use counted::total_at;
 use label::label_less;
 use sender::PublicKey;
 use sender::Unit;
-use counted::total_at;
 
 // The unit of a counted source.
 pub fn unit_at(counted: &[[u64; 8]], i: usize) -> Unit

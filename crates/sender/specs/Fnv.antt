@@ -1,6 +1,7 @@
 -- FNV-1a with 64 bits, from RFC 9923: each byte of the string goes into the hash by an exclusive or, and then the hash is
 -- multiplied by the prime, modulo 2^64. Definitions only.
 use Prim.Native.Nat.{ℕ, suc, zero, _*_, _/_, _%_, _^_}
+use mathlib.Core.Path.{_≡_}
 use mathlib.Core.List.{List, [], _∷_}
 use lib.Bits.{bitXor}
 
@@ -28,3 +29,15 @@ fnv1a bytes = feed offset-basis bytes
 unfoldable pub big-endian : ℕ → ℕ → List ℕ
 big-endian zero word = []
 big-endian (suc n) word = word / 256 ^ n % 256 ∷ big-endian n word
+
+-- ---- where RFC 9923 has the offset basis from: the FNV-0 hash, which begins at 0 and multiplies first, of a text
+unfoldable pub fnv0 : ℕ → List ℕ → ℕ
+fnv0 hash [] = hash
+fnv0 hash (byte ∷ bytes) = fnv0 (bitXor (hash * prime % 2 ^ 64) byte) bytes
+
+-- `chongo <Landon Curt Noll> /\../\`
+abbrev pub basis-text : List ℕ
+basis-text = 99 ∷ 104 ∷ 111 ∷ 110 ∷ 103 ∷ 111 ∷ 32 ∷ 60 ∷ 76 ∷ 97 ∷ 110 ∷ 100 ∷ 111 ∷ 110 ∷ 32 ∷ 67 ∷ 117 ∷ 114 ∷ 116 ∷ 32 ∷ 78 ∷ 111 ∷ 108 ∷ 108 ∷ 62 ∷ 32 ∷ 47 ∷ 92 ∷ 46 ∷ 46 ∷ 47 ∷ 92 ∷ []
+
+abbrev pub Basis : Type 0
+Basis = fnv0 0 basis-text ≡ offset-basis

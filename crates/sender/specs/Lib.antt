@@ -1,4 +1,3 @@
 -- Fnv: the hash of RFC 9923. Sender: a unit's bytes, hash, rank, table and words.
 pub mod Fnv
 pub mod Sender
-pub mod Cases

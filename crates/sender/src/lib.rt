@@ -39,6 +39,7 @@ pub enum Unit {
 }
 
 // A unit as words of memory: its kind, and a key's four words or a group's prefix in `a`.
+#[repr(C)]
 pub struct Words {
     pub kind: u64,
     pub a: u64,

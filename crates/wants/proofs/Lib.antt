@@ -2,4 +2,3 @@ pub mod Least
 pub mod Octave
 pub mod Raised
 pub mod Steps
-pub mod Cases

@@ -1,3 +1,2 @@
 pub mod Bucket
 pub mod Wants
-pub mod Cases

@@ -1,4 +1,4 @@
--- Document 01's cases hold of the definitions, by computing. Assumes nothing.
+-- The levels of document 01's cases, by computing one row: a histogram filled in one dimension has the level of that row. Assumes nothing.
 use mathlib.Core.Path.{_≡_, refl, ap, _∙_}
 use mathlib.Core.List.{List, [], _∷_}
 use Prim.Native.Nat.{ℕ, _<_}
@@ -6,11 +6,10 @@ use lib.ListN.{length, replicate, length-set, getD-replicate}
 use lib.Seq.{getD-set-same}
 use lib.Ieee.{Float, ofBits, ofInt, add, sub, mul, div, lt, le, eq}
 use Rattle.flow.specs.Flow.{nothing}
 use Rattle.wants.specs.Bucket.{bucket-of, reaches, largest}
 use Rattle.wants.specs.Wants.{dims, number, infinity, Hist, counts-of, sums-of, cleared, one-more, plus, added, counted, next, walked, found, level}
-use Rattle.wants.specs.Cases.{Cases, of-wants}
+use Rattle.cases.specs.Cases.{of-wants, level-of}
 
--- ---- one dimension of a histogram that is filled in that dimension
 row-counts : List Float → List ℕ → List ℕ
 row-counts [] cs = cs
 row-counts (want ∷ wants) cs = row-counts wants (one-more cs (bucket-of want))
@@ -32,10 +31,10 @@ sums-filled d (w ∷ ws) h l =
     sums-filled d ws (added h d w) (rw length-set l) ∙ ap (row-sums ws) (getD-set-same (h .sums) d (plus (sums-of h d) (bucket-of w) w) [] l)
 
 -- the level in any dimension is that of one row, filled from nothing
-row-level : List Float → Float
+pub row-level : List Float → Float
 row-level ws = found (walked (row-counts ws (replicate 768 0)) (row-sums ws (replicate 768 nothing)) (number 10) 768)
 
-level-filled : (d : ℕ) (ws : List Float) → d < dims → level (of-wants d ws cleared) d (number 10) ≡ row-level ws
+pub level-filled : (d : ℕ) (ws : List Float) → d < dims → level-of d ws ≡ row-level ws
 unfolding level cleared row-level
 level-filled d ws h =
     let c : counts-of (of-wants d ws cleared) d ≡ row-counts ws (replicate 768 0) =
@@ -46,28 +45,14 @@ level-filled d ws h =
     ∙ ap (λ (ss : List Float). found (walked (row-counts ws (replicate 768 0)) ss (number 10) 768)) s
 
 -- two wants of which one is cut; two within the rate; none
-cut : row-level (number 2 ∷ number 20 ∷ []) ≡ number 8
+pub cut : row-level (number 2 ∷ number 20 ∷ []) ≡ number 8
 unfolding row-level row-counts row-sums one-more plus bucket-of largest reaches counted next walked found lt le eq add sub mul div ofBits ofInt
 cut = refl
 
-both-kept : row-level (number 2 ∷ number 3 ∷ []) ≡ infinity
+pub both-kept : row-level (number 2 ∷ number 3 ∷ []) ≡ infinity
 unfolding row-level row-counts row-sums one-more plus bucket-of largest reaches counted next walked found lt le eq add sub mul div ofBits ofInt
 both-kept = refl
 
-none-cut : row-level [] ≡ infinity
+pub none-cut : row-level [] ≡ infinity
 unfolding row-level row-counts row-sums counted next walked found add ofBits ofInt
 none-cut = refl
-
--- ---- the cases
-three : {a b c x y z : Float} → a ≡ x → b ≡ y → c ≡ z → a ∷ b ∷ c ∷ [] ≡ x ∷ y ∷ z ∷ []
-three p q r = cc
-
-pub cases : Cases
-unfolding bucket-of largest reaches lt ofBits ofInt
-cases = record {
-  buckets = refl;
-  levels = λ d h. three
-      (level-filled d (number 2 ∷ number 20 ∷ []) h ∙ cut)
-      (level-filled d (number 2 ∷ number 3 ∷ []) h ∙ both-kept)
-      (level-filled d [] h ∙ none-cut);
-}
