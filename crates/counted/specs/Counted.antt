@@ -5,6 +5,7 @@ use mathlib.Core.List.{List, [], _∷_, _++_, map}
 use lib.Dec.{ltb}
 use lib.ListN.{length, getD, set, replicate, take, drop}
 use Rattle.sender.specs.declared.Words.{Words}
+use Rattle.sender.specs.Sender.{words-of, unit-of}
 use Rattle.store.specs.Store.{same, words-at, first}
 use Rattle.counted.specs.Sorted.{sorted}
 
@@ -12,8 +13,9 @@ use Rattle.counted.specs.Sorted.{sorted}
 abbrev pub counted-row : List (List ℕ) → ℕ → List ℕ
 counted-row rows i = getD rows i []
 
+-- the words are those of the unit that the row reads as
 unfoldable pub counted-is : List (List ℕ) → Words → ℕ → Bool
-counted-is rows w i = same (words-at rows i) w
+counted-is rows w i = same (words-of (unit-of (words-at rows i))) w
 
 unfoldable pub counted-find : List (List ℕ) → Words → ℕ → ℕ
 counted-find rows w n = first (counted-is rows w) n

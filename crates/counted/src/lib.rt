@@ -37,11 +37,13 @@ pub fn counts_at(counted: &[[u64; 8]], i: usize) -> [u64; 3]
     [row[5], row[6], row[7]]
 }
 
+// Whether the words are those of the unit that the row reads as.
 fn counted_is(counted: &[[u64; 8]], i: usize, w: Words) -> bool
     requires { ⌜ i < length (now counted) ⌝ }
     ensures { λ r. ⌜ r ≡ counts.counted-is (now (counted .entry)) w i ⌝ }
 {
-    same(counted_words(counted, i), w)
+    let unit = sender::unit_of(counted_words(counted, i));
+    same(sender::words_of(unit), w)
 }
 
 fn counted_find(counted: &[[u64; 8]], n: usize, w: Words) -> usize

@@ -7,12 +7,18 @@ use Rattle.counted.proofs.counted_is.Tie as tie
 counted-words-requires : tie.Need-counted-words-requires
 counted-words-requires c κs = search needs
 
+unit-of-requires : tie.Need-unit-of-requires
+unit-of-requires c κs = search needs
+
+words-of-requires : tie.Need-words-of-requires
+words-of-requires c κs = search needs
+
 same-requires : tie.Need-same-requires
 same-requires c κs = search needs
 
 returns : tie.Need-returns
 unfolding counted-is
-returns c = simp (c .same .ensures, c .before .counted-words .ensures)
+returns c = simp (c .same .ensures, c .before .words-of .ensures, c .before .before .unit-of .ensures, c .before .before .before .counted-words .ensures)
 
 pub counted-is-spec : {M : Type 1} → statement M
-counted-is-spec = tie.close (tie.spec counted-words-requires same-requires returns)
+counted-is-spec = tie.close (tie.spec counted-words-requires unit-of-requires words-of-requires same-requires returns)

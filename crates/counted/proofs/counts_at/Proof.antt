@@ -1,5 +1,5 @@
 -- `counted::counts_at` meets its contract: the row's last three words. Assumes nothing.
-use Rattle.counted.specs.Counted.{counts-at, counted-row}
+use Rattle.counted.specs.Counted.{counts-at}
 use borrow.Author.Needs.{needs}
 use Rattle.counted.proofs.counts_at.Statement.{statement}
 use Rattle.counted.proofs.counts_at.Tie as tie
@@ -20,7 +20,7 @@ array-read-t15 : tie.Need-array-read-t15
 array-read-t15 c = search needs
 
 returns : tie.Need-returns
-unfolding counts-at counted-row
+unfolding counts-at
 returns c = search needs
 
 pub counts-at-spec : {M : Type 1} → statement M
