@@ -1,8 +1,8 @@
 -- Demand 3's first two bounds, of a whole list. Assumes nothing.
-use Prim.Native.Nat.{ℕ, zero, suc, _+_, _-_, _*_, _≤_, _<_, _^_, _%_}
+use Prim.Native.Nat.{ℕ, suc, _+_, _-_, _*_, _≤_, _<_, _^_, _%_}
 use native.Mathlib.Omega.{arith}
-use native.Mathlib.Nat.{mod-le, le-trans, mul-le-mul-right}
-use mathlib.Core.Path.{_≡_, refl, sym, subst}
+use native.Mathlib.Nat.{mod-le, mul-le-mul-right}
+use mathlib.Core.Path.{_≡_, sym, subst}
 use mathlib.Core.List.{List, [], _∷_}
 use lib.ListN.{length, getD}
 use Rattle.ieee.specs.Units.{power}

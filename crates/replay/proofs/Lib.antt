@@ -1,4 +1,6 @@
 pub mod Turning
 pub mod Watched
 pub mod Totals
+pub mod Amounts
+pub mod Reading
 pub mod Bounds

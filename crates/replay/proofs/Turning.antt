@@ -1,88 +1,72 @@
--- One row of a list is one call. Assumes nothing.
-use mathlib.Core.Path.{_≡_, refl, sym, ap, _∙_}
-use mathlib.Core.Bool.{Bool, true, false}
+-- The call of a row, by the row's first word; one row more in the list. Assumes nothing.
+use mathlib.Core.Path.{_≡_, refl, ap, subst, _∙_}
+use mathlib.Core.Bool.{true, false}
 use mathlib.Core.List.{List, [], _∷_}
-use Prim.Native.Nat.{ℕ, suc, _+_}
+use Prim.Native.Nat.{ℕ, _+_}
 use native.Mathlib.Numerals.{add-one}
 use lib.Dec.{eqb}
 use lib.ListN.{getD}
 use Rattle.sender.specs.declared.Unit as unit
-use Rattle.sender.specs.declared.Words.{Words}
-use Rattle.sender.specs.Sender as sender
-use Rattle.store.specs.Store.{Rows}
-use Rattle.wants.specs.Wants.{Hist}
 use Rattle.head.specs.declared.Shedder.{Shedder}
-use Rattle.head.specs.declared.Cause.{Cause}
-use Rattle.shed.specs.declared.Judgement.{Judgement}
-use Rattle.shed.specs.declared.Cutting.{Cutting}
-use Rattle.shed.specs.Judging as judging
-use Rattle.shed.specs.Judging.{Memory, memory}
-use Rattle.shed.specs.Cutting as cutting
+use Rattle.shed.specs.Judging.{Memory}
 use Rattle.fair.specs.Calls as calls
-use Rattle.fair.specs.Calls.{State, Call, Judge, Cut, Read, Visited}
-use Rattle.replay.specs.Replay.{words-in, cost-in, cause-in, call-in, calls-in}
+use Rattle.fair.specs.Calls.{State, Call, Read}
+use Rattle.replay.specs.declared.Turned.{Turned}
+use Rattle.replay.specs.Replay.{judge-in, cut-in, reading-in, call-in, page-after, read-page, run-after, run, Turns}
 
-call-judge : (row : List ℕ) → eqb (getD row 0 0) 0 ≡ true → call-in row ≡ Judge (sender.unit-of (words-in row)) (cost-in row) (getD row 6 0)
+pub call-judge : (row page : List ℕ) → eqb (getD row 0 0) 0 ≡ true → judge-in row ≡ call-in row page
 unfolding call-in
-call-judge row e = rw e
+call-judge row page e = rw e
 
-call-cut : (row : List ℕ) → eqb (getD row 0 0) 0 ≡ false → eqb (getD row 0 0) 1 ≡ true → call-in row ≡ Cut (sender.unit-of (words-in row)) (cause-in (getD row 6 0)) (cost-in row)
+pub call-cut : (row page : List ℕ) → eqb (getD row 0 0) 0 ≡ false → eqb (getD row 0 0) 1 ≡ true → cut-in row ≡ call-in row page
 unfolding call-in
-call-cut row e f = rw (e, f)
+call-cut row page e f = rw (e, f)
 
-call-else : (row : List ℕ) → eqb (getD row 0 0) 0 ≡ false → eqb (getD row 0 0) 1 ≡ false → call-in row ≡ Read Visited
+pub call-read : (row page : List ℕ) → eqb (getD row 0 0) 0 ≡ false → eqb (getD row 0 0) 1 ≡ false → Read (reading-in row page) ≡ call-in row page
 unfolding call-in
-call-else row e f = rw (e, f)
+call-read row page e f = rw (e, f)
 
--- the unit and the cost of a row
-unit-is : (row : List ℕ) (w : Words) (u : unit.Unit) → w ≡ words-in row → u ≡ sender.unit-of w → u ≡ sender.unit-of (words-in row)
-unit-is row w u e f = f ∙ ap sender.unit-of e
+pub turns-as : (watched : unit.Unit) (s : State) (c d : Call) (r : Turned) (t : State) → c ≡ d → Turns watched s c r t → Turns watched s d r t
+turns-as watched s c d r t e f = subst (λ (x : Call). Turns watched s x r t) e f
 
-pub turn-judge : (h : Shedder) (m : Memory) (row : List ℕ) (w : Words) (u : unit.Unit) (cost : List ℕ) (j : Judgement) (n : Memory) → w ≡ words-in row → u ≡ sender.unit-of w → cost ≡ cost-in row → eqb (getD row 0 0) 0 ≡ true
-    → judging.judgement j n ≡ judging.judge h m u cost (getD row 6 0) → calls.state-of (j .head) n ≡ calls.step (calls.state-of h m) (call-in row)
-turn-judge h m row w u cost j n ew eu ec t e =
-    ap (λ (x : judging.Judged). calls.state-of (x .head) (x .memory)) e
-    ∙ ap (λ (v : unit.Unit). calls.step (calls.state-of h m) (Judge v cost (getD row 6 0))) (unit-is row w u ew eu)
-    ∙ ap (λ (c : List ℕ). calls.step (calls.state-of h m) (Judge (sender.unit-of (words-in row)) c (getD row 6 0))) ec
-    ∙ ap (calls.step (calls.state-of h m)) (sym (call-judge row t))
+-- ---- the buffer: only a reading can write it
+pub judge-page : (s : State) (row page : List ℕ) (c : Call) → judge-in row ≡ c → page ≡ page-after s c page
+unfolding judge-in
+judge-page s row page c e = ap (λ (x : Call). page-after s x page) e
 
-pub turn-cut : (h : Shedder) (m : Rows) (g : Hist) (k : List (List ℕ)) (row : List ℕ) (w : Words) (u : unit.Unit) (cost : List ℕ) (c : Cause) (j : Cutting) (m' : Rows) (k' : List (List ℕ)) → w ≡ words-in row → u ≡ sender.unit-of w → cost ≡ cost-in row
-    → c ≡ cause-in (getD row 6 0) → eqb (getD row 0 0) 0 ≡ false → eqb (getD row 0 0) 1 ≡ true → cutting.cutting j m' k' ≡ cutting.cut h m k u c cost
-    → calls.state-of (j .head) (memory m' g k') ≡ calls.step (calls.state-of h (memory m g k)) (call-in row)
-turn-cut h m g k row w u cost c j m' k' ew eu ec ek t s e =
-    ap (λ (x : cutting.Cut). calls.state-of (x .head) (memory (x .rows) g (x .counted))) e
-    ∙ ap (λ (v : unit.Unit). calls.step (calls.state-of h (memory m g k)) (Cut v c cost)) (unit-is row w u ew eu)
-    ∙ ap (λ (x : Cause). calls.step (calls.state-of h (memory m g k)) (Cut (sender.unit-of (words-in row)) x cost)) ek
-    ∙ ap (λ (x : List ℕ). calls.step (calls.state-of h (memory m g k)) (Cut (sender.unit-of (words-in row)) (cause-in (getD row 6 0)) x)) ec
-    ∙ ap (calls.step (calls.state-of h (memory m g k))) (sym (call-cut row t s))
+pub cut-page : (s : State) (row page : List ℕ) (c : Call) → cut-in row ≡ c → page ≡ page-after s c page
+unfolding cut-in
+cut-page s row page c e = ap (λ (x : Call). page-after s x page) e
 
-pub turn-else : (h : Shedder) (m : Memory) (row : List ℕ) → eqb (getD row 0 0) 0 ≡ false → eqb (getD row 0 0) 1 ≡ false → calls.state-of h m ≡ calls.step (calls.state-of h m) (call-in row)
-turn-else h m row t s = ap (calls.step (calls.state-of h m)) (sym (call-else row t s))
-
--- ---- the call of a row, by what the program read of it
-pub row-judge : (row : List ℕ) (w : Words) (u : unit.Unit) (cost : List ℕ) → w ≡ words-in row → u ≡ sender.unit-of w → cost ≡ cost-in row → eqb (getD row 0 0) 0 ≡ true → Judge u cost (getD row 6 0) ≡ call-in row
-row-judge row w u cost ew eu ec t =
-    ap (λ (v : unit.Unit). Judge v cost (getD row 6 0)) (unit-is row w u ew eu)
-    ∙ ap (λ (c : List ℕ). Judge (sender.unit-of (words-in row)) c (getD row 6 0)) ec ∙ sym (call-judge row t)
-
-pub row-cut : (row : List ℕ) (w : Words) (u : unit.Unit) (cost : List ℕ) (c : Cause) → w ≡ words-in row → u ≡ sender.unit-of w → cost ≡ cost-in row → c ≡ cause-in (getD row 6 0) → eqb (getD row 0 0) 0 ≡ false
-    → eqb (getD row 0 0) 1 ≡ true → Cut u c cost ≡ call-in row
-row-cut row w u cost c ew eu ec ek t s =
-    ap (λ (v : unit.Unit). Cut v c cost) (unit-is row w u ew eu)
-    ∙ ap (λ (x : Cause). Cut (sender.unit-of (words-in row)) x cost) ek
-    ∙ ap (λ (x : List ℕ). Cut (sender.unit-of (words-in row)) (cause-in (getD row 6 0)) x) ec ∙ sym (call-cut row t s)
-
-pub row-else : (row : List ℕ) → eqb (getD row 0 0) 0 ≡ false → eqb (getD row 0 0) 1 ≡ false → Read Visited ≡ call-in row
-row-else row t s = sym (call-else row t s)
+pub read-page-is : (s : State) (row page out : List ℕ) (c : Call) → Read (reading-in row page) ≡ c → out ≡ read-page s (reading-in row page) page → out ≡ page-after s c page
+read-page-is s row page out c e f = f ∙ ap (λ (x : Call). page-after s x page) e
 
 -- ---- the list
 pub headed : (x y : Shedder) (m : Memory) (s : State) → x ≡ y → calls.state-of y m ≡ s → calls.state-of x m ≡ s
 headed x y m s e f = ap (λ (z : Shedder). calls.state-of z m) e ∙ f
 
-pub run-none : (s : State) (rows : List (List ℕ)) → s ≡ calls.state s (calls-in rows 0)
-unfolding calls.state calls-in
-run-none s rows = refl
+module _ (first : State) (page : List ℕ) (rows : List (List ℕ)) where
+  pub run-none : first ≡ calls.state first (run first page rows 0 .list)
+  unfolding calls.state run
+  run-none = refl
 
-pub run-next : (first s t : State) (rows : List (List ℕ)) (i : ℕ) → s ≡ calls.state first (calls-in rows i) → t ≡ calls.step s (call-in (getD rows i [])) → t ≡ calls.state first (calls-in rows (i + 1))
-unfolding calls.state calls-in
-run-next first s t rows i e f = rw add-one (f ∙ ap (λ (x : State). calls.step x (call-in (getD rows i []))) e)
+  pub page-none : page ≡ run first page rows 0 .page
+  unfolding run
+  page-none = refl
+
+  -- the buffer out is what the rows before left
+  pub list-next : (i : ℕ) (out : List ℕ) → out ≡ run first page rows i .page → call-in (getD rows i []) out ∷ run first page rows i .list ≡ run first page rows (i + 1) .list
+  unfolding run run-after
+  list-next i out e = rw add-one (ap (λ (x : List ℕ). call-in (getD rows i []) x ∷ run first page rows i .list) e)
+
+  pub page-next : (i : ℕ) (out left : List ℕ) (s : State) → out ≡ run first page rows i .page → s ≡ calls.state first (run first page rows i .list) → left ≡ page-after s (call-in (getD rows i []) out) out
+      → left ≡ run first page rows (i + 1) .page
+  unfolding run run-after
+  page-next i out left s e es f =
+      rw add-one
+      (f ∙ ap (λ (x : State). page-after x (call-in (getD rows i []) out) out) es
+      ∙ ap (λ (x : List ℕ). page-after (calls.state first (run first page rows i .list)) (call-in (getD rows i []) x) x) e)
+
+pub run-next : (first s t : State) (h k : List Call) (c : Call) → c ∷ h ≡ k → s ≡ calls.state first h → t ≡ calls.step s c → t ≡ calls.state first k
+unfolding calls.state
+run-next first s t h k c ek es f = f ∙ ap (λ (x : State). calls.step x c) es ∙ ap (calls.state first) ek

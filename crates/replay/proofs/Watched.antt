@@ -2,13 +2,12 @@
 use mathlib.Core.Path.{_≡_, refl, sym, ap, _∙_, subst}
 use mathlib.Core.Bool.{Bool, true, false, cond}
 use mathlib.Core.List.{List}
-use Prim.Native.Nat.{ℕ, _+_, _≤_, _<_, max}
+use Prim.Native.Nat.{ℕ, _+_, _≤_}
 use native.Mathlib.Omega.{arith}
 use borrow.Author.Tests.{ltb-true, lt-ltb, le-ltb, eqb-true}
 use lib.Dec.{T, eqb, ltb}
 use lib.ListN.{length}
 use Rattle.sender.specs.declared.Unit as unit
-use Rattle.sender.specs.declared.Name as sender-name
 use Rattle.sender.specs.Sender as sender
 use Rattle.sender.specs.Sender.{Tells}
 use Rattle.sender.proofs.Naming.{name-injective}

@@ -1,5 +1,6 @@
 -- A list of calls written as rows of words, and what running it leaves. Definitions only.
 use Prim.Native.Nat.{ℕ, zero, suc, _+_, _^_, _%_}
+use mathlib.Core.Path.{_≡_}
 use mathlib.Core.Bool.{Bool, true, false, cond}
 use mathlib.Core.List.{List, [], _∷_}
 use lib.Dec.{eqb, ltb}
@@ -13,12 +14,16 @@ use Rattle.head.specs.declared.Answer.{Answer}
 use Rattle.head.specs.declared.Answer.the-variants as answer
 use Rattle.head.specs.declared.Cause.{Cause}
 use Rattle.head.specs.declared.Cause.the-variants as cause
+use Rattle.head.specs.declared.Dim.{Dim}
+use Rattle.head.specs.declared.Dim.the-variants as dim
 use Rattle.head.specs.Numbers.{choose}
+use Rattle.report.specs.Report as reports
 use Rattle.fair.specs.Calls as calls
-use Rattle.fair.specs.Calls.{State, Call, Judge, Cut, Read, Visited, events, by}
+use Rattle.fair.specs.Calls.{State, Call, Judge, Cut, Read, Reading, Report, ReportBeside, Count, Visited, Level, Rate, IsBounded, events, by}
 use Rattle.fair.specs.Runs.{sum}
+use Rattle.replay.specs.declared.Turned.{Turned}
 
--- a row: which call, the unit's five words, the cost in each dimension, and a stamp or a cause
+-- a row: which call, the unit's five words, a stamp, a cause or a dimension, and the cost in each dimension
 unfoldable pub words-in : List ℕ → Words
 words-in row = record { kind = getD row 1 0; a = getD row 2 0; b = getD row 3 0; c = getD row 4 0; d = getD row 5 0 }
 
@@ -28,16 +33,66 @@ cost-in row = upto (λ (d : ℕ). getD row (7 + d) 0) dims (replicate dims 0)
 unfoldable pub cause-in : ℕ → Cause
 cause-in n = choose (eqb n 0) cause.ReceiverCeiling (choose (eqb n 1) cause.OverShare cause.RelayRate)
 
--- 0 is a judgement, 1 a cut, anything else a reading
-unfoldable pub call-in : List ℕ → Call
-call-in row =
-    choose (eqb (getD row 0 0) 0) (Judge (sender.unit-of (words-in row)) (cost-in row) (getD row 6 0))
-    (choose (eqb (getD row 0 0) 1) (Cut (sender.unit-of (words-in row)) (cause-in (getD row 6 0)) (cost-in row)) (Read Visited))
+unfoldable pub dim-in : ℕ → Dim
+dim-in n = choose (eqb n 0) dim.Receptions dim.Bytes
 
--- the calls of the first n rows, the newest first
-unfoldable pub calls-in : List (List ℕ) → ℕ → List Call
-calls-in rows zero = []
-calls-in rows (suc n) = call-in (getD rows n []) ∷ calls-in rows n
+unfoldable pub judge-in : List ℕ → Call
+judge-in row = Judge (sender.unit-of (words-in row)) (cost-in row) (getD row 6 0)
+
+unfoldable pub cut-in : List ℕ → Call
+cut-in row = Cut (sender.unit-of (words-in row)) (cause-in (getD row 6 0)) (cost-in row)
+
+-- what is read of the head alone, by the row's first word and its stamp, cause or dimension: 4 the batches cut for a cause, 5 the tables visited, 6 a level, 7 a rate, anything else whether the relay is bounded
+unfoldable pub head-reading : ℕ → ℕ → Reading
+head-reading which n =
+    choose (eqb which 4) (Count (cause-in n)) (choose (eqb which 5) Visited (choose (eqb which 6) (Level (dim-in n)) (choose (eqb which 7) (Rate (dim-in n)) IsBounded)))
+
+-- 2 is a report into the buffer, 3 the call beside it
+unfoldable pub reading-in : List ℕ → List ℕ → Reading
+reading-in row page = choose (eqb (getD row 0 0) 2) (Report page) (choose (eqb (getD row 0 0) 3) (ReportBeside page) (head-reading (getD row 0 0) (getD row 6 0)))
+
+-- 0 is a judgement, 1 a cut, anything else a reading; `page` is the report's buffer as the call gets it
+unfoldable pub call-in : List ℕ → List ℕ → Call
+call-in row page = choose (eqb (getD row 0 0) 0) (judge-in row) (choose (eqb (getD row 0 0) 1) (cut-in row) (Read (reading-in row page)))
+
+-- ---- the buffer
+-- a report leaves what its definition says, any other call leaves the buffer as it was
+abbrev pub read-page : State → Reading → List ℕ → List ℕ
+read-page s (Report out) page = reports.report (s .head) (length (s .memory .rows .hashes)) (length (s .memory .rows .units)) (length (s .memory .rows .uses)) (s .memory .counted) out .out
+read-page s (ReportBeside out) page = page
+read-page s (Count c) page = page
+read-page s Visited page = page
+read-page s (Level d) page = page
+read-page s (Rate d) page = page
+read-page s IsBounded page = page
+
+abbrev pub page-after : State → Call → List ℕ → List ℕ
+page-after s (Judge u cost t) page = page
+page-after s (Cut u c cost) page = page
+page-after s (Read q) page = read-page s q page
+
+-- ---- the list
+-- the calls so far, the newest first, and the buffer after them
+pub record Run : Type 0 where
+  pub list : List Call
+  pub page : List ℕ
+
+module _ (first : State) where
+  -- the call of a row gets the state that the calls before left, and the buffer as they left it
+  unfoldable pub run-after : Run → List ℕ → Run
+  run-after r row = record { list = call-in row (r .page) ∷ r .list; page = page-after (calls.state first (r .list)) (call-in row (r .page)) (r .page) }
+
+  -- the first n rows
+  unfoldable pub run : List ℕ → List (List ℕ) → ℕ → Run
+  run page rows zero = record { list = []; page = page }
+  run page rows (suc n) = run-after (run page rows n) (getD rows n [])
+
+  -- all rows
+  abbrev pub calls-in : List ℕ → List (List ℕ) → List Call
+  calls-in page rows = run page rows (length rows) .list
+
+  abbrev pub page-in : List ℕ → List (List ℕ) → List ℕ
+  page-in page rows = run page rows (length rows) .page
 
 -- ---- the totals
 unfoldable pub is-admitted : Answer → Bool
@@ -77,3 +132,12 @@ own-used hashes units tracked room u =
 -- and whether that is the watched unit's
 unfoldable pub on-watched : List ℕ → List (List ℕ) → ℕ → ℕ → unit.Unit → unit.Unit → Bool
 on-watched hashes units tracked room watched u = cond (own-used hashes units tracked room u) (calls.same-name (sender.name-of watched) (sender.name-of u)) false
+
+-- ---- one row
+-- what the program has after a row whose call is c: head and memory t, the number of its refusal, and what it amounts to; of a refused call what it amounts to on the watched unit's record is left open, since nothing counts it
+pub record Turns (watched : unit.Unit) (s : State) (c : Call) (r : Turned) (t : State) : Type 0 where
+  pub left : t ≡ calls.step s c
+  pub number : r .number ≡ calls.number s c
+  pub admitted : r .admitted ≡ amounts calls.admitted s c
+  pub handed : r .handed ≡ amounts calls.handed s c
+  pub admitted-on : r .number ≡ 0 → r .«admitted_on» ≡ amounts (calls.admitted-on (calls.own watched)) s c

@@ -1,89 +1,34 @@
 // A list of calls, given as rows of words, run through the real calls: what it leaves is the run of the list.
+mod numbers;
+mod own;
+mod read;
+mod rows;
+
 ghost use mathlib.Core.Path.{_≡_};
 ghost use lib.ListN.{length};
 ghost use lib.Dec.{eqb};
 ghost use mathlib.Core.Bool.{cond};
 ghost use Prim.Native.Nat.{_+_, _^_, _%_};
+ghost use Rattle.sender.specs.declared.Unit as unit;
 ghost use Rattle.store.specs.Store as store;
 ghost use Rattle.wants.specs.Wants as wants;
+ghost use Rattle.wants.specs.Wants.{Hist};
 ghost use Rattle.shed.specs.Judging as judging;
+ghost use Rattle.shed.specs.Judging.{Memory};
 ghost use Rattle.fair.specs.Calls as calls;
-ghost use Rattle.head.specs.Answers as answers;
 ghost use Rattle.replay.specs.Replay as replay;
 ghost use Rattle.replay.specs.Bounds as bounds;
 use flow::DIMS;
 use head::Answer;
-use head::Cause;
-use head::Done;
-use head::Reading;
 use head::Shedder;
+use numbers::cut_number;
+use numbers::judge_number;
+use own::on_watched;
+use read::read_row;
+use rows::cause_in;
+use rows::cost_in;
+use rows::words_in;
 use sender::Unit;
-use sender::Words;
-
-fn words_in(row: [u64; 7 + DIMS]) -> Words
-    ensures { λ r. ⌜ r ≡ replay.words-in row ⌝ }
-{
-    Words {
-        kind: row[1],
-        a: row[2],
-        b: row[3],
-        c: row[4],
-        d: row[5],
-    }
-}
-
-fn cost_in(row: [u64; 7 + DIMS]) -> [u64; DIMS]
-    ensures { λ r. ⌜ r ≡ replay.cost-in row ⌝ }
-{
-    let mut cost = [0u64; DIMS];
-    let mut d = 0;
-    while d < DIMS {
-        cost[d] = row[7 + d];
-        d += 1;
-    }
-    cost
-}
-
-fn cause_in(n: u64) -> Cause
-    ensures { λ r. ⌜ r ≡ replay.cause-in n ⌝ }
-{
-    if n == 0 {
-        return Cause::ReceiverCeiling;
-    }
-    if n == 1 {
-        return Cause::OverShare;
-    }
-    Cause::RelayRate
-}
-
-fn judge_number(answer: Answer) -> u64
-    ensures { λ r. ⌜ r ≡ answers.judge-number answer ⌝ }
-{
-    match answer {
-        Answer::Admitted => 0,
-        Answer::OverShare => 0,
-        Answer::RelayRate => 0,
-        Answer::Refused(n) => n,
-    }
-}
-
-fn cut_number(answer: Done) -> u64
-    ensures { λ r. ⌜ r ≡ answers.cut-number answer ⌝ }
-{
-    match answer {
-        Done::Counted => 0,
-        Done::Refused(n) => n,
-    }
-}
-
-fn reading_number(answer: Reading) -> u64
-    ensures { λ r. ⌜ r ≡ answers.reading-number answer ⌝ }
-{
-    match answer {
-        Reading::Whole(_) => 0,
-        Reading::Refused(n) => n,
-    }
-}
 
 fn is_admitted(answer: Answer) -> bool
     ensures { λ r. ⌜ r ≡ replay.is-admitted answer ⌝ }
@@ -106,37 +51,6 @@ fn counted_if(on: bool, cost: [u64; DIMS]) -> [u64; DIMS]
     [0u64; DIMS]
 }
 
-// Whether a judgement of the unit uses the unit's own record: found, or added. False where the slices are shorter than the records in use: such a judgement is refused.
-fn uses_own(head: Shedder, hashes: &[u64], units: &[[u64; 7]], unit: Unit) -> bool
-    ensures { λ r. ⌜ r ≡ replay.own-used (now (hashes .entry)) (now (units .entry)) (head .tracked) (head .«unit_room») unit ⌝ }
-{
-    if sender::is_overflow(unit) {
-        return false;
-    }
-    if head.tracked < head.unit_room {
-        return true;
-    }
-    if hashes.len() < head.tracked {
-        return false;
-    }
-    if units.len() < head.tracked {
-        return false;
-    }
-    let name = sender::name_of(unit);
-    let i = store::find(hashes, units, head.tracked, name);
-    i < head.tracked
-}
-
-// Whether a judgement of the unit uses the watched unit's own record.
-fn on_watched(head: Shedder, hashes: &[u64], units: &[[u64; 7]], watched: Unit, unit: Unit) -> bool
-    ensures { λ r. ⌜ r ≡ replay.on-watched (now (hashes .entry)) (now (units .entry)) (head .tracked) (head .«unit_room») watched unit ⌝ }
-{
-    if uses_own(head, hashes, units, unit) {
-        return sender::same_unit(watched, unit);
-    }
-    false
-}
-
 // What a call leaves, the number of its refusal (0 for none), what it admits, what of that on the watched unit's own record, and what it hands back.
 struct Turned {
     head: Shedder,
@@ -146,8 +60,7 @@ struct Turned {
     handed: [u64; DIMS],
 }
 
-// One row: a judgement, a cut, or a reading, which leaves all as it was.
-fn turn(
+fn judge_row(
     head: Shedder,
     hashes: &mut [u64],
     units: &mut [[u64; 7]],
@@ -158,66 +71,74 @@ fn turn(
     watched: Unit,
     row: [u64; 7 + DIMS],
 ) -> Turned
-    ensures { λ r. ⌜ calls.state-of (r .head) (judging.memory (store.rows (now (hashes .exit)) (now (units .exit)) (now (uses .exit))) (wants.hist (now (counts .exit)) (now (sums .exit))) (now (counted .exit))) ≡ calls.step (calls.state-of head (judging.memory (store.rows (now (hashes .entry)) (now (units .entry)) (now (uses .entry))) (wants.hist (now (counts .entry)) (now (sums .entry))) (now (counted .entry)))) (replay.call-in row) ⌝ }
-    ensures { λ r. ⌜ r .number ≡ calls.number (calls.state-of head (judging.memory (store.rows (now (hashes .entry)) (now (units .entry)) (now (uses .entry))) (wants.hist (now (counts .entry)) (now (sums .entry))) (now (counted .entry)))) (replay.call-in row) ⌝ }
-    ensures { λ r. ⌜ r .admitted ≡ replay.amounts calls.admitted (calls.state-of head (judging.memory (store.rows (now (hashes .entry)) (now (units .entry)) (now (uses .entry))) (wants.hist (now (counts .entry)) (now (sums .entry))) (now (counted .entry)))) (replay.call-in row) ⌝ }
-    ensures { λ r. ⌜ r .handed ≡ replay.amounts calls.handed (calls.state-of head (judging.memory (store.rows (now (hashes .entry)) (now (units .entry)) (now (uses .entry))) (wants.hist (now (counts .entry)) (now (sums .entry))) (now (counted .entry)))) (replay.call-in row) ⌝ }
-    ensures { λ r. ⌜ (r .number ≡ 0 → r .«admitted_on» ≡ replay.amounts (calls.admitted-on (calls.own watched)) (calls.state-of head (judging.memory (store.rows (now (hashes .entry)) (now (units .entry)) (now (uses .entry))) (wants.hist (now (counts .entry)) (now (sums .entry))) (now (counted .entry)))) (replay.call-in row)) ⌝ }
+    ensures { λ r. ⌜ replay.Turns watched (calls.state-of head (judging.memory (store.rows (now (hashes .entry)) (now (units .entry)) (now (uses .entry))) (wants.hist (now (counts .entry)) (now (sums .entry))) (now (counted .entry)))) (replay.judge-in row) r (calls.state-of (r .head) (judging.memory (store.rows (now (hashes .exit)) (now (units .exit)) (now (uses .exit))) (wants.hist (now (counts .exit)) (now (sums .exit))) (now (counted .exit)))) ⌝ }
 {
-    let words = words_in(row);
-    let unit = sender::unit_of(words);
+    let unit = sender::unit_of(words_in(row));
     let cost = cost_in(row);
-    let which = row[0];
-    let last = row[6];
-    if which == 0 {
-        let mine = on_watched(head, hashes, units, watched, unit);
-        let judged = shed::judge(
-            head,
-            hashes,
-            units,
-            uses,
-            counts,
-            sums,
-            counted,
-            unit,
-            cost,
-            last,
-        );
-        let answer = judged.answer;
-        let left = judged.head;
-        let number = judge_number(answer);
-        let goes = is_admitted(answer);
-        let admitted = counted_if(goes, cost);
-        let admitted_on = counted_if(mine, admitted);
-        let handed = [0u64; DIMS];
-        return Turned {
-            head: left,
-            number,
-            admitted,
-            admitted_on,
-            handed,
-        };
+    let stamp = row[6];
+    let mine = on_watched(head, hashes, units, watched, unit);
+    let judged = shed::judge(
+        head,
+        hashes,
+        units,
+        uses,
+        counts,
+        sums,
+        counted,
+        unit,
+        cost,
+        stamp,
+    );
+    let answer = judged.answer;
+    let left = judged.head;
+    let number = judge_number(answer);
+    let goes = is_admitted(answer);
+    let admitted = counted_if(goes, cost);
+    let admitted_on = counted_if(mine, admitted);
+    let handed = [0u64; DIMS];
+    Turned {
+        head: left,
+        number,
+        admitted,
+        admitted_on,
+        handed,
     }
-    if which == 1 {
-        let cause = cause_in(last);
-        let cut = shed::cut(head, hashes, units, uses, counted, unit, cause, cost);
-        let answer = cut.answer;
-        let left = cut.head;
-        let number = cut_number(answer);
-        let place = head::index_of(cause);
-        let handed = counted_if(place == 0, cost);
-        let admitted = [0u64; DIMS];
-        let admitted_on = [0u64; DIMS];
-        return Turned {
-            head: left,
-            number,
-            admitted,
-            admitted_on,
-            handed,
-        };
+}
+
+fn cut_row(
+    head: Shedder,
+    hashes: &mut [u64],
+    units: &mut [[u64; 7]],
+    uses: &mut [[f64; 2 * DIMS]],
+    counted: &mut [[u64; 8]],
+    row: [u64; 7 + DIMS],
+) -> Turned
+    ensures { λ r. ⌜ ((watched : unit.Unit) (g : Hist) → replay.Turns watched (calls.state-of head (judging.memory (store.rows (now (hashes .entry)) (now (units .entry)) (now (uses .entry))) g (now (counted .entry)))) (replay.cut-in row) r (calls.state-of (r .head) (judging.memory (store.rows (now (hashes .exit)) (now (units .exit)) (now (uses .exit))) g (now (counted .exit))))) ⌝ }
+{
+    let unit = sender::unit_of(words_in(row));
+    let cost = cost_in(row);
+    let cause = cause_in(row[6]);
+    let cut = shed::cut(head, hashes, units, uses, counted, unit, cause, cost);
+    let answer = cut.answer;
+    let left = cut.head;
+    let number = cut_number(answer);
+    let place = head::index_of(cause);
+    let handed = counted_if(place == 0, cost);
+    let none = [0u64; DIMS];
+    Turned {
+        head: left,
+        number,
+        admitted: none,
+        admitted_on: none,
+        handed,
     }
-    let reading = readings::visited(head);
-    let number = reading_number(reading);
+}
+
+// A reading leaves the head as it was and amounts to nothing.
+fn turned_by_reading(head: Shedder, number: u64) -> Turned
+    ensures { λ r. ⌜ r .head ≡ head ⌝ }
+    ensures { λ r. ⌜ ((watched : unit.Unit) (m : Memory) (q : calls.Reading) → number ≡ calls.read-number (calls.state-of head m) q → replay.Turns watched (calls.state-of head m) (calls.Read q) r (calls.state-of (r .head) m)) ⌝ }
+{
     let none = [0u64; DIMS];
     Turned {
         head,
@@ -226,6 +147,43 @@ fn turn(
         admitted_on: none,
         handed: none,
     }
+}
+
+// One row.
+fn turn(
+    head: Shedder,
+    hashes: &mut [u64],
+    units: &mut [[u64; 7]],
+    uses: &mut [[f64; 2 * DIMS]],
+    counts: &mut [[u32; 768]; DIMS],
+    sums: &mut [[f64; 768]; DIMS],
+    counted: &mut [[u64; 8]],
+    watched: Unit,
+    row: [u64; 7 + DIMS],
+    out: &mut [u8],
+) -> Turned
+    ensures { λ r. ⌜ replay.Turns watched (calls.state-of head (judging.memory (store.rows (now (hashes .entry)) (now (units .entry)) (now (uses .entry))) (wants.hist (now (counts .entry)) (now (sums .entry))) (now (counted .entry)))) (replay.call-in row (now (out .entry))) r (calls.state-of (r .head) (judging.memory (store.rows (now (hashes .exit)) (now (units .exit)) (now (uses .exit))) (wants.hist (now (counts .exit)) (now (sums .exit))) (now (counted .exit)))) ⌝ }
+    ensures { λ r. ⌜ now (out .exit) ≡ replay.page-after (calls.state-of head (judging.memory (store.rows (now (hashes .entry)) (now (units .entry)) (now (uses .entry))) (wants.hist (now (counts .entry)) (now (sums .entry))) (now (counted .entry)))) (replay.call-in row (now (out .entry))) (now (out .entry)) ⌝ }
+{
+    let which = row[0];
+    if which == 0 {
+        return judge_row(
+            head,
+            hashes,
+            units,
+            uses,
+            counts,
+            sums,
+            counted,
+            watched,
+            row,
+        );
+    }
+    if which == 1 {
+        return cut_row(head, hashes, units, uses, counted, row);
+    }
+    let number = read_row(head, hashes, units, uses, counted, row, out);
+    turned_by_reading(head, number)
 }
 
 // Sums in each dimension, modulo 2^64.
@@ -288,7 +246,7 @@ fn after(run: Replayed, t: Turned) -> Replayed
     }
 }
 
-// All rows, in order.
+// All rows, in order; out is the buffer of the reports.
 pub fn replay(
     head: Shedder,
     hashes: &mut [u64],
@@ -299,14 +257,16 @@ pub fn replay(
     counted: &mut [[u64; 8]],
     watched: Unit,
     list: &[[u64; 7 + DIMS]],
+    out: &mut [u8],
 ) -> Replayed
-    ensures { λ r. ⌜ calls.state-of (r .head) (judging.memory (store.rows (now (hashes .exit)) (now (units .exit)) (now (uses .exit))) (wants.hist (now (counts .exit)) (now (sums .exit))) (now (counted .exit))) ≡ calls.state (calls.state-of head (judging.memory (store.rows (now (hashes .entry)) (now (units .entry)) (now (uses .entry))) (wants.hist (now (counts .entry)) (now (sums .entry))) (now (counted .entry)))) (replay.calls-in (now (list .entry)) (length (now (list .entry)))) ⌝ }
-    ensures { λ r. ⌜ r .admitted ≡ replay.totals calls.admitted (calls.state-of head (judging.memory (store.rows (now (hashes .entry)) (now (units .entry)) (now (uses .entry))) (wants.hist (now (counts .entry)) (now (sums .entry))) (now (counted .entry)))) (replay.calls-in (now (list .entry)) (length (now (list .entry)))) ⌝ }
-    ensures { λ r. ⌜ r .handed ≡ replay.totals calls.handed (calls.state-of head (judging.memory (store.rows (now (hashes .entry)) (now (units .entry)) (now (uses .entry))) (wants.hist (now (counts .entry)) (now (sums .entry))) (now (counted .entry)))) (replay.calls-in (now (list .entry)) (length (now (list .entry)))) ⌝ }
-    ensures { λ r. ⌜ r .taken ≡ length (calls.events (calls.state-of head (judging.memory (store.rows (now (hashes .entry)) (now (units .entry)) (now (uses .entry))) (wants.hist (now (counts .entry)) (now (sums .entry))) (now (counted .entry)))) (replay.calls-in (now (list .entry)) (length (now (list .entry))))) % 2 ^ 64 ⌝ }
-    ensures { λ r. ⌜ bounds.Relay (calls.state-of head (judging.memory (store.rows (now (hashes .entry)) (now (units .entry)) (now (uses .entry))) (wants.hist (now (counts .entry)) (now (sums .entry))) (now (counted .entry)))) (replay.calls-in (now (list .entry)) (length (now (list .entry)))) (r .admitted) ⌝ }
-    ensures { λ r. ⌜ r .«admitted_on» ≡ replay.totals (calls.admitted-on (calls.own watched)) (calls.state-of head (judging.memory (store.rows (now (hashes .entry)) (now (units .entry)) (now (uses .entry))) (wants.hist (now (counts .entry)) (now (sums .entry))) (now (counted .entry)))) (replay.calls-in (now (list .entry)) (length (now (list .entry)))) ⌝ }
-    ensures { λ r. ⌜ bounds.Share watched (calls.state-of head (judging.memory (store.rows (now (hashes .entry)) (now (units .entry)) (now (uses .entry))) (wants.hist (now (counts .entry)) (now (sums .entry))) (now (counted .entry)))) (replay.calls-in (now (list .entry)) (length (now (list .entry)))) (r .«admitted_on») ⌝ }
+    ensures { λ r. ⌜ calls.state-of (r .head) (judging.memory (store.rows (now (hashes .exit)) (now (units .exit)) (now (uses .exit))) (wants.hist (now (counts .exit)) (now (sums .exit))) (now (counted .exit))) ≡ calls.state (calls.state-of head (judging.memory (store.rows (now (hashes .entry)) (now (units .entry)) (now (uses .entry))) (wants.hist (now (counts .entry)) (now (sums .entry))) (now (counted .entry)))) (replay.calls-in (calls.state-of head (judging.memory (store.rows (now (hashes .entry)) (now (units .entry)) (now (uses .entry))) (wants.hist (now (counts .entry)) (now (sums .entry))) (now (counted .entry)))) (now (out .entry)) (now (list .entry))) ⌝ }
+    ensures { λ r. ⌜ now (out .exit) ≡ replay.page-in (calls.state-of head (judging.memory (store.rows (now (hashes .entry)) (now (units .entry)) (now (uses .entry))) (wants.hist (now (counts .entry)) (now (sums .entry))) (now (counted .entry)))) (now (out .entry)) (now (list .entry)) ⌝ }
+    ensures { λ r. ⌜ r .admitted ≡ replay.totals calls.admitted (calls.state-of head (judging.memory (store.rows (now (hashes .entry)) (now (units .entry)) (now (uses .entry))) (wants.hist (now (counts .entry)) (now (sums .entry))) (now (counted .entry)))) (replay.calls-in (calls.state-of head (judging.memory (store.rows (now (hashes .entry)) (now (units .entry)) (now (uses .entry))) (wants.hist (now (counts .entry)) (now (sums .entry))) (now (counted .entry)))) (now (out .entry)) (now (list .entry))) ⌝ }
+    ensures { λ r. ⌜ r .handed ≡ replay.totals calls.handed (calls.state-of head (judging.memory (store.rows (now (hashes .entry)) (now (units .entry)) (now (uses .entry))) (wants.hist (now (counts .entry)) (now (sums .entry))) (now (counted .entry)))) (replay.calls-in (calls.state-of head (judging.memory (store.rows (now (hashes .entry)) (now (units .entry)) (now (uses .entry))) (wants.hist (now (counts .entry)) (now (sums .entry))) (now (counted .entry)))) (now (out .entry)) (now (list .entry))) ⌝ }
+    ensures { λ r. ⌜ r .taken ≡ length (calls.events (calls.state-of head (judging.memory (store.rows (now (hashes .entry)) (now (units .entry)) (now (uses .entry))) (wants.hist (now (counts .entry)) (now (sums .entry))) (now (counted .entry)))) (replay.calls-in (calls.state-of head (judging.memory (store.rows (now (hashes .entry)) (now (units .entry)) (now (uses .entry))) (wants.hist (now (counts .entry)) (now (sums .entry))) (now (counted .entry)))) (now (out .entry)) (now (list .entry)))) % 2 ^ 64 ⌝ }
+    ensures { λ r. ⌜ bounds.Relay (calls.state-of head (judging.memory (store.rows (now (hashes .entry)) (now (units .entry)) (now (uses .entry))) (wants.hist (now (counts .entry)) (now (sums .entry))) (now (counted .entry)))) (replay.calls-in (calls.state-of head (judging.memory (store.rows (now (hashes .entry)) (now (units .entry)) (now (uses .entry))) (wants.hist (now (counts .entry)) (now (sums .entry))) (now (counted .entry)))) (now (out .entry)) (now (list .entry))) (r .admitted) ⌝ }
+    ensures { λ r. ⌜ r .«admitted_on» ≡ replay.totals (calls.admitted-on (calls.own watched)) (calls.state-of head (judging.memory (store.rows (now (hashes .entry)) (now (units .entry)) (now (uses .entry))) (wants.hist (now (counts .entry)) (now (sums .entry))) (now (counted .entry)))) (replay.calls-in (calls.state-of head (judging.memory (store.rows (now (hashes .entry)) (now (units .entry)) (now (uses .entry))) (wants.hist (now (counts .entry)) (now (sums .entry))) (now (counted .entry)))) (now (out .entry)) (now (list .entry))) ⌝ }
+    ensures { λ r. ⌜ bounds.Share watched (calls.state-of head (judging.memory (store.rows (now (hashes .entry)) (now (units .entry)) (now (uses .entry))) (wants.hist (now (counts .entry)) (now (sums .entry))) (now (counted .entry)))) (replay.calls-in (calls.state-of head (judging.memory (store.rows (now (hashes .entry)) (now (units .entry)) (now (uses .entry))) (wants.hist (now (counts .entry)) (now (sums .entry))) (now (counted .entry)))) (now (out .entry)) (now (list .entry))) (r .«admitted_on») ⌝ }
 {
     let none = [0u64; DIMS];
     let mut run = Replayed {
@@ -330,6 +290,7 @@ pub fn replay(
             counted,
             watched,
             row,
+            out,
         );
         run = after(run, turned);
         i += 1;

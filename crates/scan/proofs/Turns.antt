@@ -1,11 +1,14 @@
 -- A turn of each loop of the scan. Assumes nothing.
-use mathlib.Core.Path.{_≡_, refl}
-use Prim.Native.Nat.{ℕ, zero, suc, _+_}
+use mathlib.Core.Path.{_≡_, refl, sym, ap, _∙_}
+use mathlib.Core.Bool.{false}
+use Prim.Native.Nat.{ℕ, zero, suc, _+_, _-_, _≤_}
+use native.Mathlib.Nat.{add-sub-of-le, add-zero, add-suc}
+use native.Mathlib.Omega.{arith}
 use native.Mathlib.Numerals.{add-one}
 use mathlib.Core.List.{List}
 use lib.Ieee.{Float}
 use Rattle.flow.specs.Flow.{at}
-use Rattle.store.specs.Store.{Rows}
+use Rattle.store.specs.Store.{Rows, None, in-table}
 use Rattle.wants.specs.Wants.{Hist}
 use Rattle.wants.specs.Wants as wants
 use Rattle.scan.specs.Walking.{adds, walk, walk-one}
@@ -25,3 +28,17 @@ walk-none m table t g = refl
 pub walk-next : (m : Rows) (table t i : ℕ) (g : Hist) → walk m table t (i + 1) g ≡ walk-one m table t i (walk m table t i g)
 unfolding walk
 walk-next m table t i g = rw add-one
+
+-- records that are not of the table add nothing
+walk-off : (m : Rows) (table t i : ℕ) (g : Hist) → in-table (m .hashes) table i ≡ false → walk-one m table t i g ≡ g
+unfolding walk-one in-table
+walk-off m table t i g e = rw e
+
+pub walk-past : (m : Rows) (table t i j : ℕ) (g : Hist) → i ≤ j → None (in-table (m .hashes) table) i j → walk m table t j g ≡ walk m table t i g
+walk-past m table t i j g h n = ap (λ (k : ℕ). walk m table t k g) (sym (add-sub-of-le h)) ∙ go (j - i) (λ k a b. n k a (omega arith))
+  where
+    go : (d : ℕ) → None (in-table (m .hashes) table) i (i + d) → walk m table t (i + d) g ≡ walk m table t i g
+    go zero n = ap (λ (k : ℕ). walk m table t k g) (add-zero i)
+    go (suc d) n =
+        ap (λ (k : ℕ). walk m table t k g) (add-suc i d ∙ sym (add-one (i + d))) ∙ walk-next m table t (i + d) g
+        ∙ walk-off m table t (i + d) (walk m table t (i + d) g) (n (i + d) (omega arith) (omega arith)) ∙ go d (λ k a b. n k a (omega arith))

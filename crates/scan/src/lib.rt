@@ -82,10 +82,10 @@ fn walk(
     requires { ⌜ n ≤ length (now uses) ⌝ }
     ensures { λ r. ⌜ (wants.hist (now (counts .exit)) (now (sums .exit))) ≡ walking.walk (store.rows (now (hashes .entry)) (now (units .entry)) (now (uses .entry))) table «at_ms» n (wants.hist (now (counts .entry)) (now (sums .entry))) ⌝ }
 {
-    let mut i = 0;
+    let mut i = store::next_in(hashes, 0, n, table);
     while i < n {
         walk_one(hashes, units, uses, counts, sums, i, table, at_ms);
-        i += 1;
+        i = store::next_in(hashes, i + 1, n, table);
     }
 }
 

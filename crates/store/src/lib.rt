@@ -1,5 +1,6 @@
 // Rows of lent memory: a unit's record.
 ghost use mathlib.Core.Path.{_≡_};
+ghost use mathlib.Core.Bool.{true};
 ghost use Prim.Native.Nat.{_<_, _≤_, _+_};
 ghost use lib.ListN.{length};
 ghost use Rattle.store.specs.Store as store;
@@ -129,13 +130,46 @@ pub fn is_at(hashes: &[u64], units: &[[u64; 7]], i: usize, name: Name) -> bool
     false
 }
 
+// Whether one of the four records from i on has the hash. Four comparisons in a row cost less than four turns of a loop.
+fn near_hash(hashes: &[u64], i: usize, hash: u64) -> bool
+    requires { ⌜ i + 4 ≤ length (now hashes) ⌝ }
+    ensures { λ r. ⌜ r ≡ store.near (store.has-hash (now (hashes .entry)) hash) i ⌝ }
+{
+    if hashes[i] == hash {
+        return true;
+    }
+    if hashes[i + 1] == hash {
+        return true;
+    }
+    if hashes[i + 2] == hash {
+        return true;
+    }
+    hashes[i + 3] == hash
+}
+
+// A place up to n before which no record has the hash, in steps of four.
+fn skip_to_hash(hashes: &[u64], n: usize, hash: u64) -> usize
+    requires { ⌜ n ≤ length (now hashes) ⌝ }
+    ensures { λ r. ⌜ r ≤ n ⌝ }
+    ensures { λ r. ⌜ store.None (store.has-hash (now (hashes .entry)) hash) 0 r ⌝ }
+{
+    let mut i = 0;
+    while 4 <= n - i {
+        if near_hash(hashes, i, hash) {
+            return i;
+        }
+        i += 4;
+    }
+    i
+}
+
 // The first of n records that is the unit's, else n.
 pub fn find(hashes: &[u64], units: &[[u64; 7]], n: usize, name: Name) -> usize
     requires { ⌜ n ≤ length (now hashes) ⌝ }
     requires { ⌜ n ≤ length (now units) ⌝ }
     ensures { λ r. ⌜ r ≡ store.find (now (hashes .entry)) (now (units .entry)) name n ⌝ }
 {
-    let mut i = 0;
+    let mut i = skip_to_hash(hashes, n, name.hash);
     while i < n {
         if is_at(hashes, units, i, name) {
             return i;
@@ -153,6 +187,60 @@ pub fn table_at(hashes: &[u64], i: usize) -> usize
     ensures { λ r. ⌜ r ≡ store.table-at (now (hashes .entry)) i ⌝ }
 {
     sender::table_of_hash(hashes[i])
+}
+
+// Whether one of the four records from i on is of the table.
+fn near_table(hashes: &[u64], i: usize, table: usize) -> bool
+    requires { ⌜ i + 4 ≤ length (now hashes) ⌝ }
+    ensures { λ r. ⌜ r ≡ store.near (store.in-table (now (hashes .entry)) table) i ⌝ }
+{
+    if table_at(hashes, i) == table {
+        return true;
+    }
+    if table_at(hashes, i + 1) == table {
+        return true;
+    }
+    if table_at(hashes, i + 2) == table {
+        return true;
+    }
+    table_at(hashes, i + 3) == table
+}
+
+// A place up to n before which no record from `from` on is of the table, in steps of four.
+fn skip_to_table(hashes: &[u64], from: usize, n: usize, table: usize) -> usize
+    requires { ⌜ from ≤ n ⌝ }
+    requires { ⌜ n ≤ length (now hashes) ⌝ }
+    ensures { λ r. ⌜ from ≤ r ⌝ }
+    ensures { λ r. ⌜ r ≤ n ⌝ }
+    ensures { λ r. ⌜ store.None (store.in-table (now (hashes .entry)) table) from r ⌝ }
+{
+    let mut i = from;
+    while 4 <= n - i {
+        if near_table(hashes, i, table) {
+            return i;
+        }
+        i += 4;
+    }
+    i
+}
+
+// The first record from `from` on that is of the table, else n.
+pub fn next_in(hashes: &[u64], from: usize, n: usize, table: usize) -> usize
+    requires { ⌜ from ≤ n ⌝ }
+    requires { ⌜ n ≤ length (now hashes) ⌝ }
+    ensures { λ r. ⌜ from ≤ r ⌝ }
+    ensures { λ r. ⌜ r ≤ n ⌝ }
+    ensures { λ r. ⌜ store.None (store.in-table (now (hashes .entry)) table) from r ⌝ }
+    ensures { λ r. ⌜ (r < n → store.in-table (now (hashes .entry)) table r ≡ true) ⌝ }
+{
+    let mut i = skip_to_table(hashes, from, n, table);
+    while i < n {
+        if table_at(hashes, i) == table {
+            return i;
+        }
+        i += 1;
+    }
+    i
 }
 
 fn since(now: u64, at: u64) -> u64
@@ -181,12 +269,12 @@ fn first_stale(hashes: &[u64], units: &[[u64; 7]], n: usize, table: usize, at_ms
     ensures { λ r. ⌜ r ≡ store.first (store.is-stale (now (hashes .entry)) (now (units .entry)) table «at_ms») n ⌝ }
     ensures { λ r. ⌜ r ≤ n ⌝ }
 {
-    let mut i = 0;
+    let mut i = next_in(hashes, 0, n, table);
     while i < n {
         if is_stale(hashes, units, i, table, at_ms) {
             return i;
         }
-        i += 1;
+        i = next_in(hashes, i + 1, n, table);
     }
     n
 }

@@ -53,18 +53,25 @@ fn infinity() -> f64
     f64::from_bits(9218868437227405312)
 }
 
-// The number of units counted in a dimension, summed from the lowest bucket up.
+fn wide(n: u32) -> u64
+    ensures { λ r. ⌜ (r ≡ n) × (r < 4294967296) ⌝ }
+{
+    n as u64
+}
+
+// The number of units counted in a dimension. The definition sums doubles from the lowest bucket up. Each of those sums is
+// a whole number below 2^53, so none is rounded, and the whole numbers summed first come to the same double.
 fn counted(counts: &[[u32; BUCKETS]; DIMS], dim: usize) -> f64
     requires { ⌜ dim < wants.dims ⌝ }
     ensures { λ r. ⌜ r ≡ wants.counted (getD (now (counts .entry)) dim []) 768 ⌝ }
 {
-    let mut total = 0.0;
+    let mut total = 0;
     let mut i = 0;
     while i < BUCKETS {
-        total = total + number(counts[dim][i]);
+        total = total + wide(counts[dim][i]);
         i += 1;
     }
-    total
+    flow::whole(total)
 }
 
 // The water level of a max-min fair division of the rate among the units counted: what a unit that wants more is held to.

@@ -3,7 +3,7 @@ use lib.ListN.{getD, replicate}
 use Rattle.flow.proofs.Parts.{upto-none, upto-next}
 use Rattle.flow.specs.Flow.{dims, upto}
 use native.Mathlib.Omega.{arith}
-use Prim.Native.Nat.{ℕ, _≤_, _<_, _-_, _+_, _^_, _%_}
+use Prim.Native.Nat.{ℕ, _≤_, _-_, _+_, _^_, _%_}
 use mathlib.Core.Path.{_≡_}
 use borrow.Author.Needs.{needs}
 use Rattle.replay.proofs.sums.Statement.{statement}

@@ -1,43 +1,14 @@
-use mathlib.Core.Path.{refl}
 use borrow.Author.Tests.{eq-eqb, ne-eqb}
-use Rattle.replay.proofs.Turning.{turn-judge, turn-cut, turn-else, row-judge, row-cut, row-else}
-use Rattle.replay.proofs.Totals.{judge-number-is, judge-admits, judge-on, judge-hands, cut-number-is, cut-admits, cut-on, cut-hands, read-number-is, read-none}
+use Rattle.replay.proofs.Turning.{call-judge, call-cut, call-read, turns-as, judge-page, cut-page, read-page-is}
 use borrow.Author.Needs.{needs}
 use Rattle.replay.proofs.turn.Statement.{statement}
 use Rattle.replay.proofs.turn.Tie as tie
 
-words-in-requires : tie.Need-words-in-requires
-words-in-requires c κs = search needs
-
-unit-of-requires : tie.Need-unit-of-requires
-unit-of-requires c κs = search needs
-
-cost-in-requires : tie.Need-cost-in-requires
-cost-in-requires c κs = search needs
-
 array-read-which : tie.Need-array-read-which
 array-read-which c = search needs
 
-array-read-last : tie.Need-array-read-last
-array-read-last c = search needs
-
-on-watched-requires : tie.Need-on-watched-requires
-on-watched-requires c κs = search needs
-
-judge-requires : tie.Need-judge-requires
-judge-requires c κs = search needs
-
-judge-number-requires : tie.Need-judge-number-requires
-judge-number-requires c κs = search needs
-
-is-admitted-requires : tie.Need-is-admitted-requires
-is-admitted-requires c κs = search needs
-
-counted-if-requires : tie.Need-counted-if-requires
-counted-if-requires c κs = search needs
-
-counted-if-requires-2 : tie.Need-counted-if-requires-2
-counted-if-requires-2 c κs = search needs
+judge-row-requires : tie.Need-judge-row-requires
+judge-row-requires c κs = search needs
 
 same-length : tie.Need-same-length
 same-length c = search needs
@@ -53,35 +24,11 @@ same-length-4 c = search needs
 
 returns : tie.Need-returns
 returns c =
-    let k = row-judge _ _ _ _ (c .before .before .before .before .before .before .before .before .before .before .before .before .before .before .before .before .before .before .before .before .before .before .before .words-in .ensures) (c .before .before .before .before .before .before .before .before .before .before .before .before .before .before .before .before .before .before .before .before .before .before .unit-of .ensures) (c .before .before .before .before .before .before .before .before .before .before .before .before .before .before .before .before .before .before .before .before .before .cost-in .ensures) (eq-eqb _ 0 (c .before .before .before .before .before .before .before .before .before .before .before .before .before .before .before .before .before .before .before .before .if1 .taken)) in
-    let a = judge-admits _ _ _ _ _ _ _ k (c .before .before .before .before .before .before .before .before .before .before .judge .ensures .0) _ _ (c .before .before .before .before .before .before .before .before .before .before .before .before .before .before .before .before .before .before .before .before .before .cost-in .ensures) (c .before .before .is-admitted .ensures) (c .before .counted-if .ensures) in (
-      turn-judge _ _ _ _ _ _ _ _ (c .before .before .before .before .before .before .before .before .before .before .before .before .before .before .before .before .before .before .before .before .before .before .before .words-in .ensures) (c .before .before .before .before .before .before .before .before .before .before .before .before .before .before .before .before .before .before .before .before .before .before .unit-of .ensures) (c .before .before .before .before .before .before .before .before .before .before .before .before .before .before .before .before .before .before .before .before .before .cost-in .ensures) (eq-eqb _ 0 (c .before .before .before .before .before .before .before .before .before .before .before .before .before .before .before .before .before .before .before .before .if1 .taken)) (c .before .before .before .before .before .before .before .before .before .before .judge .ensures .0),
-      (
-        judge-number-is _ _ _ _ _ _ _ k (c .before .before .before .before .before .before .before .before .before .before .judge .ensures .0) _ (c .before .before .before .judge-number .ensures),
-        (
-          a,
-          (
-            judge-hands _ _ _ _ _ _ _ k (c .before .before .before .before .before .before .before .before .before .before .judge .ensures .0),
-            (λ z. judge-on _ _ _ _ _ _ _ k (c .before .before .before .before .before .before .before .before .before .before .judge .ensures .0) _ _ _ _ _ (c .before .before .before .before .before .before .before .before .before .before .before .before .before .before .before .before .before .on-watched .ensures) a (c .counted-if2 .ensures) (c .before .before .before .judge-number .ensures) z),
-          ),
-        ),
-      ),
-    )
+    let k = call-judge _ _ (eq-eqb _ 0 (c .before .before .before .before .before .before .before .before .before .before .before .before .if1 .taken)) in
+    (turns-as _ _ _ _ _ _ k (c .before .before .before .before .before .judge-row .ensures), judge-page _ _ _ _ k)
 
-cause-in-requires : tie.Need-cause-in-requires
-cause-in-requires c κs = search needs
-
-cut-requires : tie.Need-cut-requires
-cut-requires c κs = search needs
-
-cut-number-requires : tie.Need-cut-number-requires
-cut-number-requires c κs = search needs
-
-index-of-requires : tie.Need-index-of-requires
-index-of-requires c κs = search needs
-
-counted-if-requires-3 : tie.Need-counted-if-requires-3
-counted-if-requires-3 c κs = search needs
+cut-row-requires : tie.Need-cut-row-requires
+cut-row-requires c κs = search needs
 
 same-length-5 : tie.Need-same-length-5
 same-length-5 c = search needs
@@ -97,72 +44,57 @@ same-length-8 c = search needs
 
 returns-2 : tie.Need-returns-2
 returns-2 c =
-    let k = row-cut _ _ _ _ _ (c .before .before .before .before .before .before .before .before .before .before .before .before .before .before .before .before .before .before .before .words-in .ensures) (c .before .before .before .before .before .before .before .before .before .before .before .before .before .before .before .before .before .before .unit-of .ensures) (c .before .before .before .before .before .before .before .before .before .before .before .before .before .before .before .before .before .cost-in .ensures) (c .before .before .before .before .before .before .before .before .before .before .before .before .before .before .cause-in .ensures) (ne-eqb _ 0 (c .before .before .before .before .before .before .before .before .before .before .before .before .before .before .before .before .if1 .left)) (eq-eqb _ 1 (c .before .before .before .before .before .before .before .before .before .before .before .before .before .before .before .if2 .taken)) in (
-      turn-cut _ _ _ _ _ _ _ _ _ _ _ _ (c .before .before .before .before .before .before .before .before .before .before .before .before .before .before .before .before .before .before .before .words-in .ensures) (c .before .before .before .before .before .before .before .before .before .before .before .before .before .before .before .before .before .before .unit-of .ensures) (c .before .before .before .before .before .before .before .before .before .before .before .before .before .before .before .before .before .cost-in .ensures) (c .before .before .before .before .before .before .before .before .before .before .before .before .before .before .cause-in .ensures) (ne-eqb _ 0 (c .before .before .before .before .before .before .before .before .before .before .before .before .before .before .before .before .if1 .left)) (eq-eqb _ 1 (c .before .before .before .before .before .before .before .before .before .before .before .before .before .before .before .if2 .taken)) (c .before .before .before .before .before .before .before .before .before .cut .ensures .0),
-      (
-        cut-number-is _ _ _ _ _ _ _ _ _ _ _ k (c .before .before .before .before .before .before .before .before .before .cut .ensures .0) _ (c .before .before .cut-number .ensures),
-        (
-          cut-admits _ _ _ _ _ _ _ _ _ _ _ k (c .before .before .before .before .before .before .before .before .before .cut .ensures .0),
-          (
-            cut-hands _ _ _ _ _ _ _ _ _ _ _ k (c .before .before .before .before .before .before .before .before .before .cut .ensures .0) _ _ (c .before .before .before .before .before .before .before .before .before .before .before .before .before .before .before .before .before .cost-in .ensures) (c .before .index-of .ensures .0) (c .counted-if3 .ensures),
-            (λ z. cut-on _ _ _ _ _ _ _ _ _ _ _ k (c .before .before .before .before .before .before .before .before .before .cut .ensures .0) _),
-          ),
-        ),
-      ),
-    )
+    let k = call-cut _ _ (ne-eqb _ 0 (c .before .before .before .before .before .before .before .before .before .before .before .if1 .left)) (eq-eqb _ 1 (c .before .before .before .before .before .before .before .before .before .before .if2 .taken)) in
+    (turns-as _ _ _ _ _ _ k (c .before .before .before .before .before .cut-row .ensures _ _), cut-page _ _ _ _ k)
 
-visited-requires : tie.Need-visited-requires
-visited-requires c κs = search needs
+read-row-requires : tie.Need-read-row-requires
+read-row-requires c κs = search needs
 
-reading-number-requires : tie.Need-reading-number-requires
-reading-number-requires c κs = search needs
+turned-by-reading-requires : tie.Need-turned-by-reading-requires
+turned-by-reading-requires c κs = search needs
+
+same-length-9 : tie.Need-same-length-9
+same-length-9 c = search needs
+
+same-length-10 : tie.Need-same-length-10
+same-length-10 c = search needs
+
+same-length-11 : tie.Need-same-length-11
+same-length-11 c = search needs
+
+same-length-12 : tie.Need-same-length-12
+same-length-12 c = search needs
+
+same-length-13 : tie.Need-same-length-13
+same-length-13 c = search needs
 
 returns-3 : tie.Need-returns-3
 returns-3 c =
-    let k = row-else _ (ne-eqb _ 0 (c .before .before .before .if1 .left)) (ne-eqb _ 1 (c .before .before .if2 .left)) in (
-      turn-else _ _ _ (ne-eqb _ 0 (c .before .before .before .if1 .left)) (ne-eqb _ 1 (c .before .before .if2 .left)),
-      (
-        read-number-is _ _ _ k _ _ (c .before .visited .ensures .0) (c .reading-number .ensures),
-        (
-          read-none _ _ _ k _ (λ d. refl),
-          (
-            read-none _ _ _ k _ (λ d. refl),
-            (λ z. read-none _ _ _ k _ (λ d. refl)),
-          ),
-        ),
-      ),
-    )
+    let k = call-read _ _ (ne-eqb _ 0 (c .before .before .before .before .before .before .before .before .before .before .if1 .left)) (ne-eqb _ 1 (c .before .before .before .before .before .before .before .before .before .if2 .left)) in
+    (turns-as _ _ _ _ _ _ k (c .turned-by-reading .ensures .1 _ _ _ (c .before .before .before .read-row .ensures .0 _)), read-page-is _ _ _ _ _ k (c .before .before .before .read-row .ensures .1 _))
 
 pub turn-spec : {M : Type 1} → statement M
 turn-spec =
     tie.close
     (tie.spec
-    words-in-requires
-    unit-of-requires
-    cost-in-requires
     array-read-which
-    array-read-last
-    on-watched-requires
-    judge-requires
-    judge-number-requires
-    is-admitted-requires
-    counted-if-requires
-    counted-if-requires-2
+    judge-row-requires
     same-length
     same-length-2
     same-length-3
     same-length-4
     returns
-    cause-in-requires
-    cut-requires
-    cut-number-requires
-    index-of-requires
-    counted-if-requires-3
+    cut-row-requires
     same-length-5
     same-length-6
     same-length-7
     same-length-8
     returns-2
-    visited-requires
-    reading-number-requires
+    read-row-requires
+    turned-by-reading-requires
+    same-length-9
+    same-length-10
+    same-length-11
+    same-length-12
+    same-length-13
     returns-3)

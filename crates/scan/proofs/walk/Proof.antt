@@ -1,4 +1,4 @@
-use Rattle.scan.proofs.Turns.{walk-none, walk-next}
+use Rattle.scan.proofs.Turns.{walk-none, walk-next, walk-past}
 use Rattle.store.specs.Store.{rows}
 use Rattle.wants.specs.Wants.{Hist, hist}
 use lib.ListN.{length}
@@ -19,25 +19,29 @@ Inv-loop ids units uses counts₀ sums₀ n table at-ms i₀ counts sums i = (i 
 abbrev μ-loop : tie.MeasureT-loop
 μ-loop ids units uses counts₀ sums₀ n table at-ms i₀ counts sums i = n - i
 
+next-in-requires : tie.Need-next-in-requires Inv-loop μ-loop
+next-in-requires c κs = search needs
+
 loop-holds : tie.Need-loop-holds Inv-loop μ-loop
-loop-holds c = (search needs, search needs, search needs, search needs, sym (walk-none _ _ _ _))
+loop-holds c = (search needs, search needs, search needs, search needs, sym (walk-past _ _ _ _ _ _ (search needs) (c .next-in .ensures .1 .1 .0) ∙ walk-none _ _ _ _))
 
 walk-one-requires : tie.Need-walk-one-requires Inv-loop μ-loop
 walk-one-requires c κs = search needs
 
-add-i : tie.Need-add-i Inv-loop μ-loop
-add-i c = search needs
+add-next-in : tie.Need-add-next-in Inv-loop μ-loop
+add-next-in c = search needs
+
+next-in-requires-2 : tie.Need-next-in-requires-2 Inv-loop μ-loop
+next-in-requires-2 c κs = search needs
 
 loop-less : tie.Need-loop-less Inv-loop μ-loop
 loop-less c = search needs
 
 loop-again : tie.Need-loop-again Inv-loop μ-loop
-loop-again c = (search needs, search needs, search needs, search needs, c .walk-one .ensures ∙ ap (walk-one _ (c .before .before .before .before .before .before .args .table) (c .before .before .before .before .before .before .args .at-ms) (c .before .before .before .before .loop .i)) (c .before .before .before .before .loop .inv .4) ∙ sym (walk-next _ _ _ _ _))
+loop-again c = (search needs, search needs, search needs, search needs, c .before .walk-one .ensures ∙ ap (walk-one _ (c .before .before .before .before .before .before .before .before .args .table) (c .before .before .before .before .before .before .before .before .args .at-ms) (c .before .before .before .before .before .loop .i)) (c .before .before .before .before .before .loop .inv .4) ∙ sym (walk-next _ _ _ _ _) ∙ sym (walk-past _ _ _ _ _ _ (search needs) (c .next-in2 .ensures .1 .1 .0)))
 
 returns : tie.Need-returns Inv-loop μ-loop
-returns c = let e : c .before .loop .i ≡ c .before .before .before .args .n = omega arith in (rw e at (c .before .loop .inv .4))
+returns c = let e : c .before .loop .i ≡ c .before .before .before .before .args .n = omega arith in (rw e at (c .before .loop .inv .4))
 
 pub walk-spec : {M : Type 1} → statement M
-walk-spec =
-    tie.close
-    (tie.spec Inv-loop μ-loop loop-holds walk-one-requires add-i loop-less loop-again returns)
+walk-spec = tie.close (tie.spec Inv-loop μ-loop next-in-requires loop-holds walk-one-requires add-next-in next-in-requires-2 loop-less loop-again returns)

@@ -5,7 +5,7 @@ use lib.ListN.{length}
 use mathlib.Core.Path.{_≡_, sym, _∙_}
 use native.Mathlib.Omega.{arith}
 use Rattle.store.specs.Store.{first, is-at, find}
-use Rattle.store.proofs.Steps.{first-none, first-next, first-found}
+use Rattle.store.proofs.Steps.{first-none, first-past, no-hash, first-next, first-found}
 use Rattle.store.proofs.find.Statement.{statement}
 use Rattle.store.proofs.find.Tie as tie
 
@@ -15,8 +15,11 @@ Inv-loop hashes units n w i₀ i = (i ≤ n) × (n ≤ length hashes) × (n ≤ 
 abbrev μ-loop : tie.MeasureT-loop
 μ-loop hashes units n w i₀ i = n - i
 
+skip-to-hash-requires : tie.Need-skip-to-hash-requires Inv-loop μ-loop
+skip-to-hash-requires c κs = search needs
+
 loop-holds : tie.Need-loop-holds Inv-loop μ-loop
-loop-holds c = (search needs, search needs, search needs, first-none _)
+loop-holds c = (search needs, search needs, search needs, first-past _ _ _ _ (no-hash _ _ _) (search needs) (c .skip-to-hash .ensures .1) (first-none _))
 
 is-at-requires : tie.Need-is-at-requires Inv-loop μ-loop
 is-at-requires c κs = search needs
@@ -36,7 +39,7 @@ loop-again c = (search needs, search needs, search needs, first-next _ _ (c .bef
 
 returns-2 : tie.Need-returns-2 Inv-loop μ-loop
 unfolding find
-returns-2 c = let e : c .before .loop .i ≡ c .before .before .before .args .n = omega arith in sym (rw e at (c .before .loop .inv .3))
+returns-2 c = let e : c .before .loop .i ≡ c .before .before .before .before .args .n = omega arith in sym (rw e at (c .before .loop .inv .3))
 
 pub find-spec : {M : Type 1} → statement M
 find-spec =
@@ -44,6 +47,7 @@ find-spec =
     (tie.spec
     Inv-loop
     μ-loop
+    skip-to-hash-requires
     loop-holds
     is-at-requires
     returns

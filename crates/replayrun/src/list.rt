@@ -1,0 +1,239 @@
+// Standard input as a list of calls: each line of the trial's language as rows of `replay`.
+ghost use mathlib.Core.Path.{_≡_};
+ghost use lib.ListN.{take};
+use flow::DIMS;
+use libc::STDIN_FILENO;
+use script::Amounts;
+use script::CutLine;
+use script::JudgeLine;
+use script::LINE_MOST;
+use script::Line;
+use script::StartLine;
+use sender::Unit;
+
+// The rows that a list may have.
+pub const ROWS: usize = 4096;
+
+// The bytes read at once.
+const BLOCK: usize = 65536;
+
+// One byte more of a line than a line may have is kept: enough to refuse it.
+const LINE: usize = LINE_MOST + 1;
+
+const FEED: u8 = 10;
+
+// The numbers of `replay` for the calls that a line gives.
+const JUDGE: u64 = 0;
+
+const CUT: u64 = 1;
+
+const REPORT: u64 = 2;
+
+const IS_BOUNDED: u64 = 8;
+
+// The first R line and the unit of the first J line, each with whether it has come; how many rows there are, and whether
+// a row more found no room; how many bytes of the line that is being read are kept, and whether the input has ended.
+pub struct List {
+    pub start: StartLine,
+    pub is_started: bool,
+    pub watched: Unit,
+    pub is_watched: bool,
+    pub rows: usize,
+    pub is_cut_off: bool,
+    len: usize,
+    is_over: bool,
+}
+
+fn none() -> List {
+    let rate = Amounts {
+        receptions: 0,
+        bytes: 0,
+    };
+    let start = StartLine {
+        rate,
+        ceiling: rate,
+    };
+    List {
+        start,
+        is_started: false,
+        watched: Unit::Overflow,
+        is_watched: false,
+        rows: 0,
+        is_cut_off: false,
+        len: 0,
+        is_over: false,
+    }
+}
+
+// The first n bytes of s; all of s where it has fewer.
+pub fn front(s: &[u8], n: usize) -> &[u8]
+    ensures { λ r. ⌜ now r ≡ take n (now (s .entry)) ⌝ }
+{
+    if s.len() < n {
+        return s;
+    }
+    &s[..n]
+}
+
+fn row_of(which: u64, unit: Unit, last: u64, cost: Amounts) -> [u64; 7 + DIMS] {
+    let w = sender::words_of(unit);
+    [
+        which,
+        w.kind,
+        w.a,
+        w.b,
+        w.c,
+        w.d,
+        last,
+        cost.receptions,
+        cost.bytes,
+    ]
+}
+
+fn added(mut l: List, rows: &mut [[u64; 7 + DIMS]; ROWS], row: [u64; 7 + DIMS]) -> List {
+    let n = l.rows;
+    if n < ROWS {
+        rows[n] = row;
+        l.rows = n + 1;
+    } else {
+        l.is_cut_off = true;
+    }
+    l
+}
+
+fn started(l: List, start: StartLine) -> List {
+    if l.is_started {
+        return l;
+    }
+    let watched = l.watched;
+    List {
+        start,
+        is_started: true,
+        watched,
+        is_watched: l.is_watched,
+        rows: l.rows,
+        is_cut_off: l.is_cut_off,
+        len: l.len,
+        is_over: l.is_over,
+    }
+}
+
+fn watching(l: List, unit: Unit) -> List {
+    if l.is_watched {
+        return l;
+    }
+    let start = l.start;
+    List {
+        start,
+        is_started: l.is_started,
+        watched: unit,
+        is_watched: true,
+        rows: l.rows,
+        is_cut_off: l.is_cut_off,
+        len: l.len,
+        is_over: l.is_over,
+    }
+}
+
+fn judgement(l: List, rows: &mut [[u64; 7 + DIMS]; ROWS], j: JudgeLine) -> List {
+    let unit = j.unit;
+    let w = watching(l, unit);
+    added(w, rows, row_of(JUDGE, unit, j.stamp, j.cost))
+}
+
+fn cut(l: List, rows: &mut [[u64; 7 + DIMS]; ROWS], c: CutLine) -> List {
+    let unit = c.unit;
+    let cause = c.cause;
+    let place = head::index_of(cause);
+    added(l, rows, row_of(CUT, unit, place as u64, c.cost))
+}
+
+// A P line is a report, the call beside it, and each reading of the head; which cause or dimension is read changes from
+// row to row.
+fn readings(list: List, rows: &mut [[u64; 7 + DIMS]; ROWS]) -> List {
+    let mut l = list;
+    let mut which = REPORT;
+    while which <= IS_BOUNDED {
+        let n = (l.rows % 3) as u64;
+        l = added(l, rows, [which, 0, 0, 0, 0, 0, n, 0, 0]);
+        which += 1;
+    }
+    l
+}
+
+// The line that is kept. A line that has no form is no call.
+fn ended(list: List, rows: &mut [[u64; 7 + DIMS]; ROWS], line: &[u8; LINE]) -> List {
+    let mut l = list;
+    let whole = front(line, l.len);
+    l.len = 0;
+    if whole.len() > LINE_MOST {
+        return l;
+    }
+    let read = script::read_line(whole);
+    match read {
+        Line::Start(s) => started(l, s),
+        Line::Judge(j) => judgement(l, rows, j),
+        Line::Cut(c) => cut(l, rows, c),
+        Line::Report => readings(l, rows),
+        Line::Nothing => l,
+    }
+}
+
+// A byte more of the line.
+fn kept(mut l: List, line: &mut [u8; LINE], x: u8) -> List {
+    let len = l.len;
+    if len < LINE {
+        line[len] = x;
+        l.len = len + 1;
+    }
+    l
+}
+
+// The lines that end in a block of the input; what stands behind the last is kept.
+fn block(
+    list: List,
+    rows: &mut [[u64; 7 + DIMS]; ROWS],
+    line: &mut [u8; LINE],
+    input: &[u8],
+) -> List {
+    let mut l = list;
+    let mut i = 0;
+    while i < input.len() {
+        let x = input[i];
+        if x == FEED {
+            l = ended(l, rows, line);
+        } else {
+            l = kept(l, line, x);
+        }
+        i += 1;
+    }
+    l
+}
+
+// Reads once, and takes the lines that came.
+fn turn(mut l: List, rows: &mut [[u64; 7 + DIMS]; ROWS], line: &mut [u8; LINE]) -> List {
+    let mut input = [0u8; BLOCK];
+    let got = libc::read(STDIN_FILENO, &mut input);
+    let n = io::count(got, &input);
+    if n == 0 {
+        l.is_over = true;
+        return l;
+    }
+    block(l, rows, line, &input[..n])
+}
+
+// The whole input; a last line without a line end is not taken. Nothing says that an input ends, so the turns are counted
+// down from a number that no run uses up.
+pub fn read(rows: &mut [[u64; 7 + DIMS]; ROWS]) -> List {
+    let mut line = [0u8; LINE];
+    let mut l = none();
+    let mut turns = u64::MAX;
+    while turns > 0 {
+        l = turn(l, rows, &mut line);
+        if l.is_over {
+            break;
+        }
+        turns -= 1;
+    }
+    l
+}

@@ -1,0 +1,213 @@
+// The calls for relays in Rust or C. `rt staticlib tankpost` makes the archive that they link.
+// The head goes in and comes back by value; all other memory is lent. In C a slice is a pointer and a count, a reference to
+// an array is a pointer. Any bits may stand in head and memory, but that a `bool` is 0 or 1.
+ghost use mathlib.Core.Path.{_≡_};
+ghost use lib.ListN.{length};
+ghost use Rattle.sender.specs.Sender as sender;
+ghost use Rattle.store.specs.Store as store;
+ghost use Rattle.wants.specs.Wants as wants;
+ghost use Rattle.head.specs.Start as starts;
+ghost use Rattle.head.specs.Readings as readings;
+ghost use Rattle.shed.specs.Judging as judging;
+ghost use Rattle.shed.specs.Cutting as cutting;
+ghost use Rattle.report.specs.Report as reports;
+ghost use Rattle.tankpost.specs.Codes as codes;
+ghost use Rattle.tankpost.specs.Calls as calls;
+use flow::DIMS;
+use head::Shedder;
+use sender::Words;
+
+mod codes;
+
+// A call's answer as a number (specs/Codes), and the head after it.
+#[repr(C)]
+pub struct Answered {
+    pub answer: u64,
+    pub head: Shedder,
+}
+
+// A number read: the refusal's number, 0 where there was none; and the value, 0 on a refusal.
+#[repr(C)]
+pub struct Count {
+    pub refusal: u64,
+    pub value: u64,
+}
+
+// A level read, in the same way.
+#[repr(C)]
+pub struct Level {
+    pub refusal: u64,
+    pub value: f64,
+}
+
+// head::start: 0, or the number of the refusal. The head given is left by a refused start.
+#[no_mangle]
+pub extern "C" fn tankpost_start(
+    head: Shedder,
+    hashes: &[u64],
+    units: &[[u64; 7]],
+    uses: &[[f64; 2 * DIMS]],
+    counts: &mut [[u32; 768]; DIMS],
+    sums: &mut [[f64; 768]; DIMS],
+    counted: &[[u64; 8]],
+    rate: &[u64; DIMS],
+    ceiling: &[u64; DIMS],
+) -> Answered
+    ensures { λ r. ⌜ calls.started r (wants.hist (now (counts .exit)) (now (sums .exit))) ≡ calls.start-told (starts.start head (length (now (hashes .entry))) (length (now (units .entry))) (length (now (uses .entry))) (length (now (counted .entry))) (wants.hist (now (counts .entry)) (now (sums .entry))) (now (rate .entry)) (now (ceiling .entry))) ⌝ }
+{
+    let s = head::start(
+        head,
+        hashes,
+        units,
+        uses,
+        counts,
+        sums,
+        counted,
+        *rate,
+        *ceiling,
+    );
+    let answer = s.answer;
+    let h = s.head;
+    Answered {
+        answer: codes::start_code(answer),
+        head: h,
+    }
+}
+
+// shed::judge of the unit that the words give: 0 admitted, 16 over-share, 17 relay-rate, or the number of the refusal.
+#[no_mangle]
+pub extern "C" fn tankpost_judge(
+    head: Shedder,
+    hashes: &mut [u64],
+    units: &mut [[u64; 7]],
+    uses: &mut [[f64; 2 * DIMS]],
+    counts: &mut [[u32; 768]; DIMS],
+    sums: &mut [[f64; 768]; DIMS],
+    counted: &mut [[u64; 8]],
+    unit: Words,
+    cost: &[u64; DIMS],
+    stamp: u64,
+) -> Answered
+    ensures { λ r. ⌜ calls.judged r (judging.memory (store.rows (now (hashes .exit)) (now (units .exit)) (now (uses .exit))) (wants.hist (now (counts .exit)) (now (sums .exit))) (now (counted .exit))) ≡ calls.judge-told (judging.judge head (judging.memory (store.rows (now (hashes .entry)) (now (units .entry)) (now (uses .entry))) (wants.hist (now (counts .entry)) (now (sums .entry))) (now (counted .entry))) (sender.unit-of unit) (now (cost .entry)) stamp) ⌝ }
+{
+    let j = shed::judge(
+        head,
+        hashes,
+        units,
+        uses,
+        counts,
+        sums,
+        counted,
+        sender::unit_of(unit),
+        *cost,
+        stamp,
+    );
+    let answer = j.answer;
+    let h = j.head;
+    Answered {
+        answer: codes::judge_code(answer),
+        head: h,
+    }
+}
+
+// shed::cut for the cause of that number: 0 counted, or the number of the refusal.
+#[no_mangle]
+pub extern "C" fn tankpost_cut(
+    head: Shedder,
+    hashes: &mut [u64],
+    units: &mut [[u64; 7]],
+    uses: &mut [[f64; 2 * DIMS]],
+    counted: &mut [[u64; 8]],
+    unit: Words,
+    cause: u64,
+    cost: &[u64; DIMS],
+) -> Answered
+    ensures { λ r. ⌜ calls.cut r (store.rows (now (hashes .exit)) (now (units .exit)) (now (uses .exit))) (now (counted .exit)) ≡ calls.cut-told (cutting.cut head (store.rows (now (hashes .entry)) (now (units .entry)) (now (uses .entry))) (now (counted .entry)) (sender.unit-of unit) (codes.cause-of cause) (now (cost .entry))) ⌝ }
+{
+    let c = shed::cut(
+        head,
+        hashes,
+        units,
+        uses,
+        counted,
+        sender::unit_of(unit),
+        codes::cause_of(cause),
+        *cost,
+    );
+    let answer = c.answer;
+    let h = c.head;
+    Answered {
+        answer: codes::cut_code(answer),
+        head: h,
+    }
+}
+
+// report::write_report: the bytes written to the front of out, or the number of the refusal.
+#[no_mangle]
+pub extern "C" fn tankpost_report(
+    head: Shedder,
+    hashes: &[u64],
+    units: &[[u64; 7]],
+    uses: &[[f64; 2 * DIMS]],
+    counted: &[[u64; 8]],
+    out: &mut [u8],
+) -> Count
+    ensures { λ r. ⌜ calls.reported r (now (out .exit)) ≡ calls.report-told (reports.report head (length (now (hashes .entry))) (length (now (units .entry))) (length (now (uses .entry))) (now (counted .entry)) (now (out .entry))) ⌝ }
+{
+    let w = report::write_report(head, hashes, units, uses, counted, out);
+    codes::read_written(w)
+}
+
+// report::report_refusal: the number of the refusal, 0 where the report would be written.
+#[no_mangle]
+pub extern "C" fn tankpost_report_refusal(
+    head: Shedder,
+    hashes: &[u64],
+    units: &[[u64; 7]],
+    uses: &[[f64; 2 * DIMS]],
+    counted: &[[u64; 8]],
+    out: &[u8],
+) -> u64
+    ensures { λ r. ⌜ r ≡ reports.report-asked head (length (now (hashes .entry))) (length (now (units .entry))) (length (now (uses .entry))) (now (counted .entry)) (length (now (out .entry))) ⌝ }
+{
+    report::report_refusal(head, hashes, units, uses, counted, out)
+}
+
+// ---- the readings
+
+#[no_mangle]
+pub extern "C" fn tankpost_visited(head: Shedder) -> Count
+    ensures { λ r. ⌜ r ≡ codes.read-count (readings.visited head) ⌝ }
+{
+    codes::read_count(readings::visited(head))
+}
+
+#[no_mangle]
+pub extern "C" fn tankpost_cut_batches(head: Shedder, cause: u64) -> Count
+    ensures { λ r. ⌜ r ≡ codes.read-count (readings.cut-batches head (codes.cause-of cause)) ⌝ }
+{
+    codes::read_count(readings::cut_batches(head, codes::cause_of(cause)))
+}
+
+#[no_mangle]
+pub extern "C" fn tankpost_level(head: Shedder, dim: u64) -> Level
+    ensures { λ r. ⌜ r ≡ codes.read-level (readings.level-read head (codes.dim-of dim)) ⌝ }
+{
+    codes::read_level(readings::level(head, codes::dim_of(dim)))
+}
+
+// An unbounded relay's rate reads u64::MAX.
+#[no_mangle]
+pub extern "C" fn tankpost_rate(head: Shedder, dim: u64) -> Count
+    ensures { λ r. ⌜ r ≡ codes.read-rate (readings.rate-read head (codes.dim-of dim)) ⌝ }
+{
+    codes::read_rate(readings::rate(head, codes::dim_of(dim)))
+}
+
+// 1 for a bounded relay, 0 for an unbounded one.
+#[no_mangle]
+pub extern "C" fn tankpost_is_bounded(head: Shedder) -> Count
+    ensures { λ r. ⌜ r ≡ codes.read-bounded (readings.is-bounded head) ⌝ }
+{
+    codes::read_bounded(readings::is_bounded(head))
+}
