@@ -1,7 +1,9 @@
 // Rows of counted sources: how often each sender was cut, for each cause.
 ghost use mathlib.Core.Path.{_≡_};
+ghost use mathlib.Core.Bool.{true, false};
 ghost use Prim.Native.Nat.{_<_, _≤_, _+_};
 ghost use lib.ListN.{length};
+ghost use Rattle.sender.specs.Sender as sender;
 ghost use Rattle.store.specs.Store as store;
 ghost use Rattle.counted.specs.Counted as counts;
 
@@ -37,12 +39,26 @@ pub fn counts_at(counted: &[[u64; 8]], i: usize) -> [u64; 3]
     [row[5], row[6], row[7]]
 }
 
+// Whether the first words tell a row's words from a unit's. A key or a group keeps its first word, so most rows are told by it.
+fn is_other(v: Words, w: Words) -> bool
+    ensures { λ r. ⌜ (r ≡ true → store.same (sender.words-of (sender.unit-of v)) w ≡ false) ⌝ }
+{
+    if w.kind < 3 {
+        return v.a != w.a;
+    }
+    false
+}
+
 // Whether the words are those of the unit that the row reads as.
 fn counted_is(counted: &[[u64; 8]], i: usize, w: Words) -> bool
     requires { ⌜ i < length (now counted) ⌝ }
     ensures { λ r. ⌜ r ≡ counts.counted-is (now (counted .entry)) w i ⌝ }
 {
-    let unit = sender::unit_of(counted_words(counted, i));
+    let v = counted_words(counted, i);
+    if is_other(v, w) {
+        return false;
+    }
+    let unit = sender::unit_of(v);
     same(sender::words_of(unit), w)
 }
 

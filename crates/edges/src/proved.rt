@@ -10,9 +10,9 @@ use crate::says;
 use flow::Bucket;
 use flow::DIMS;
 use flow::Use;
+use label::LABEL_MOST;
 use sender::Group;
 use sender::Unit;
-use label::LABEL_MOST;
 
 fn hash(unit: Unit) {
     says::hexadecimal(sender::hash_of(unit));

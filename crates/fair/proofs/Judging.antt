@@ -16,7 +16,6 @@ use Rattle.flow.specs.declared.Use.{Use}
 use Rattle.flow.specs.declared.Outcome.{Outcome}
 use Rattle.flow.specs.declared.Verdict.{Verdict}
 use Rattle.sender.specs.declared.Unit as unit
-use Rattle.store.specs.Store as store
 use Rattle.counted.specs.Counted as counts
 use Rattle.store.specs.Store.{Rows, rows}
 use Rattle.head.specs.declared.Shedder.{Shedder}

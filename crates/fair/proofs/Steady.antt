@@ -15,7 +15,6 @@ use Rattle.flow.specs.declared.Verdict.{Verdict}
 use Rattle.sender.specs.declared.Unit as unit
 use Rattle.sender.specs.declared.Words.{Words}
 use Rattle.sender.specs.Sender as sender
-use Rattle.store.specs.Store as store
 use Rattle.counted.specs.Counted as counts
 use Rattle.store.specs.Store.{Rows}
 use Rattle.counted.specs.Counted.{Sources, sources}

@@ -12,7 +12,7 @@ use lib.ListN.{length, getD, set, replicate}
 use Rattle.flow.specs.Flow.{dims, upto}
 use Rattle.flow.proofs.Parts.{upto-at}
 use Rattle.fair.specs.Calls as calls
-use Rattle.fair.specs.Calls.{State, Call, by}
+use Rattle.fair.specs.Calls.{State, Call}
 use Rattle.fair.specs.Runs.{sum}
 use Rattle.replay.specs.Replay.{amounts, sums, whole, totals, run}
 

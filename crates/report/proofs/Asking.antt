@@ -1,15 +1,14 @@
 -- The report's questions, its answer, and the buffer after it. Assumes nothing.
 use mathlib.Core.Path.{_≡_, refl, sym, ap, _∙_}
 use mathlib.Core.Bool.{Bool, true, false, cond}
-use mathlib.Core.List.{List, [], _∷_, _++_}
-use Prim.Native.Nat.{ℕ, zero, suc, _+_, _≤_, _<_}
+use mathlib.Core.List.{List, [], _++_}
+use Prim.Native.Nat.{ℕ, _+_, _≤_, _<_}
 use native.Mathlib.Nat.{zero-add, le-of-lt}
 use native.Mathlib.Omega.{arith}
 use borrow.Author.Tests.{le-leb, lt-leb, leb-true, eqb-true}
 use lib.Dec.{eqb, leb}
 use lib.ListN.{length, take, drop}
 use lib.Seq.{take-at}
-use Rattle.io.specs.Counts.{Counts}
 use Rattle.text.specs.Page.{Page, page, placed, write}
 use Rattle.text.proofs.Writing.{fits}
 use Rattle.flow.specs.Flow.{all}

@@ -2,7 +2,7 @@
 use mathlib.Core.Path.{_≡_, refl, sym, ap, _∙_}
 use mathlib.Core.Bool.{Bool, true, false, cond, not, false≢true}
 use mathlib.Core.List.{List, [], _∷_, _++_, append-assoc}
-use Prim.Native.Nat.{ℕ, zero, suc, _+_, _*_, _/_, _%_, _^_, _≤_, _<_}
+use Prim.Native.Nat.{ℕ, zero, suc, _+_, _/_, _%_, _^_, _<_}
 use native.Mathlib.Nat.{pow-suc, pow-zero, div-lt-iff-lt-mul, div-add-mod', mod-lt}
 use native.Mathlib.Decide.{decLt}
 use native.Mathlib.Omega.{arith}
@@ -13,10 +13,9 @@ use Rattle.text.specs.Order.{less}
 use Rattle.text.specs.Number.{word}
 use Rattle.text.specs.Page.{joined}
 use Rattle.sender.specs.declared.PublicKey.{PublicKey}
-use Rattle.sender.specs.declared.Words.{Words}
 use Rattle.sender.specs.declared.Group.the-variants.{V4, V6}
 use Rattle.sender.specs.declared.Unit.{Unit}
-use Rattle.sender.specs.declared.Unit.the-variants.{Corroborated, Group as Grouped, NoAddress, Overflow}
+use Rattle.sender.specs.declared.Unit.the-variants.{Group as Grouped, NoAddress, Overflow}
 use Rattle.sender.specs.Sender.{unit-of, pick}
 use Rattle.label.specs.Label.{label, key-label, v4-label, v6-label}
 use Rattle.store.specs.Store.{words-at}

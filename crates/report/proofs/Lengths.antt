@@ -1,5 +1,5 @@
 -- How long a report can be: no text is longer than the buffer that it is composed in. Assumes nothing.
-use mathlib.Core.Path.{_≡_, refl, sym, ap, _∙_}
+use mathlib.Core.Path.{_≡_}
 use mathlib.Core.Bool.{Bool, true, false, cond}
 use mathlib.Core.List.{List, [], _∷_, _++_}
 use Prim.Native.Nat.{ℕ, zero, suc, _+_, _*_, _/_, _%_, _≤_, _<_}
@@ -7,8 +7,8 @@ use native.Mathlib.Omega.{arith}
 use lib.Dec.{eqb}
 use lib.ListN.{length, getD, length-append}
 use Rattle.text.specs.Page.{joined}
-use Rattle.text.specs.Number.{decimal, hexadecimal, word}
-use Rattle.text.proofs.Numbers.{length-word, numeral-short}
+use Rattle.text.specs.Number.{decimal}
+use Rattle.text.proofs.Numbers.{length-word}
 use Rattle.sender.specs.declared.PublicKey.{PublicKey}
 use Rattle.sender.specs.declared.Group.the-variants.{V4, V6}
 use Rattle.sender.specs.declared.Unit.{Unit}

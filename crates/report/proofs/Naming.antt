@@ -6,11 +6,11 @@ use mathlib.Core.List.{List, [], _∷_}
 use Prim.Native.Nat.{ℕ, zero, suc, _≤_, _<_}
 use native.Mathlib.Decide.{decLt}
 use native.Mathlib.Omega.{arith}
-use borrow.Author.Tests.{eq-eqb, ne-eqb, eqb-false}
+use borrow.Author.Tests.{eq-eqb, ne-eqb}
 use lib.Dec.{eqb}
 use lib.ListN.{length, getD}
 use Rattle.report.specs.Sources.{precedes, is-after, earlier, better, first-after, named, most-named, reported}
-use Rattle.report.specs.Laws.{Order, Front, Naming}
+use Rattle.report.specs.Laws.{Front, Naming}
 use Rattle.report.proofs.Ordering.{order}
 
 -- b is the earliest of those among the first m that come after p, or n where none does

@@ -1,13 +1,13 @@
 -- The scan from its parts. Assumes nothing.
-use mathlib.Core.Path.{_≡_, refl, sym, ap, _∙_}
+use mathlib.Core.Path.{_≡_, sym, ap, _∙_}
 use mathlib.Core.Bool.{Bool, true, false}
-use Prim.Native.Nat.{ℕ, _+_, _-_, _≤_, _<_}
+use Prim.Native.Nat.{ℕ, _+_, _-_, _≤_}
 use native.Mathlib.Omega.{arith}
 use lib.Dec.{leb}
-use Rattle.store.specs.Store.{Rows, Kept, kept, retained}
+use Rattle.store.specs.Store.{Rows, kept, retained}
 use Rattle.wants.specs.Wants.{Hist}
 use Rattle.head.specs.declared.Shedder.{Shedder}
-use Rattle.scan.specs.Scanning.{Scanning, scanning, visited, visit, visit-with, again, ended, ended-at, Started, started, begun, scanned, scanned-from}
+use Rattle.scan.specs.Scanning.{scanning, visited, visit, visit-with, again, ended, ended-at, started, begun, scanned, scanned-from}
 use Rattle.head.specs.Numbers.{choose}
 use Rattle.scan.specs.Walking.{walk, walk-overflow}
 

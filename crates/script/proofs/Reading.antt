@@ -2,12 +2,11 @@
 use mathlib.Core.Path.{_≡_, refl, sym, ap, _∙_}
 use mathlib.Core.Bool.{Bool, true, false, cond}
 use mathlib.Core.List.{List, [], _∷_, _++_}
-use Prim.Native.Nat.{ℕ, zero, suc, _+_, _-_, _*_, _/_, _%_, _^_, _≤_, _<_}
+use Prim.Native.Nat.{ℕ, zero, suc, _+_, _-_, _*_, _/_, _%_, _^_, _<_}
 use native.Mathlib.Nat.{pow-zero, pow-suc, div-add-mod', mod-lt, div-lt-iff-lt-mul}
 use native.Mathlib.Decide.{decLt}
 use native.Mathlib.Omega.{arith}
 use borrow.Author.Tests.{lt-ltb, le-ltb}
-use lib.Dec.{ltb}
 use Rattle.io.specs.Digits.{glyph}
 use Rattle.text.specs.Number.{numeral, decimal}
 use Rattle.text.specs.Order.{same}
@@ -27,7 +26,7 @@ use Rattle.script.specs.declared.Line.the-variants.{Start, Judge, Cut, R
 use Rattle.script.specs.Fields.{width, first, rest, grown, read, number-in, is-number, are-numbers, number-at}
 use Rattle.script.specs.Script.{cause-name, cause-in, is-cause, amounts-at, start-in, judge-in, cut-of, cut-in, line, spaced, text-of, StartFits, JudgeFits, CutFits, Written}
 use Rattle.script.proofs.Walking.{grown-fits}
-use Rattle.script.proofs.Clear.{Clear, first-seam, rest-seam, first-whole, decimal-clear, label-clear, cause-clear}
+use Rattle.script.proofs.Clear.{first-seam, rest-seam, first-whole, decimal-clear, label-clear, cause-clear}
 
 -- ---- numbers
 

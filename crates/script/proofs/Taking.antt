@@ -3,7 +3,6 @@ use mathlib.Core.Path.{_≡_, refl, sym, ap, _∙_}
 use mathlib.Core.Bool.{Bool, true, false, cond, false≢true}
 use mathlib.Core.List.{List, [], _∷_, _++_}
 use Prim.Native.Nat.{ℕ, zero, suc}
-use native.Mathlib.Omega.{arith}
 use Rattle.text.specs.Number.{numeral, decimal}
 use Rattle.text.specs.Order.{same}
 use Rattle.text.proofs.Orders.{same-eq, cond-true}
@@ -12,8 +11,8 @@ use Rattle.label.specs.Parse.{is-label, unit-in}
 use Rattle.script.specs.declared.Line as script
 use Rattle.script.specs.declared.Line.the-variants.{Start, Judge, Cut, Report, Nothing}
 use Rattle.script.specs.Fields.{width, first, rest, read, number-in, is-number, are-numbers, number-at}
-use Rattle.script.specs.Script.{cause-name, cause-in, is-cause, amounts-at, start-in, judge-in, cut-of, cut-in, line, spaced, text-of, Written, Exact}
-use Rattle.script.proofs.Clear.{Clear, seamed, first-whole, decimal-clear}
+use Rattle.script.specs.Script.{cause-name, cause-in, is-cause, amounts-at, start-in, judge-in, cut-of, cut-in, line, spaced, text-of, Exact}
+use Rattle.script.proofs.Clear.{seamed, first-whole, decimal-clear}
 use Rattle.script.proofs.Reading.{line-read}
 
 number-text : (s : List ℕ) → is-number s ≡ true → decimal (number-in s) ≡ s

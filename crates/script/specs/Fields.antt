@@ -1,6 +1,6 @@
 -- The fields of a line, which are its parts between single spaces, and the numbers in them. Definitions only.
 use Prim.Native.Nat.{ℕ, zero, suc, _+_, _-_, _*_}
-use mathlib.Core.Bool.{Bool, true, false, cond}
+use mathlib.Core.Bool.{Bool, false, cond}
 use mathlib.Core.List.{List, [], _∷_}
 use lib.Dec.{eqb, ltb}
 use lib.ListN.{take, drop}

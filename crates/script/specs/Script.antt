@@ -1,7 +1,7 @@
 -- The trial's language: which lines there are, what call each is, and the text of a call. Definitions only.
 use Prim.Native.Nat.{ℕ, _+_, _<_}
 use mathlib.Core.Path.{_≡_}
-use mathlib.Core.Bool.{Bool, true, false, cond}
+use mathlib.Core.Bool.{Bool, cond}
 use mathlib.Core.List.{List, [], _∷_, _++_}
 use Rattle.text.specs.Number.{decimal}
 use Rattle.text.specs.Order.{same}

@@ -1,5 +1,5 @@
 -- A judgement of a bounded relay, and a cut, from their parts. Assumes nothing.
-use mathlib.Core.Path.{_≡_, refl, sym, ap, _∙_}
+use mathlib.Core.Path.{_≡_, ap, _∙_}
 use mathlib.Core.List.{List}
 use Prim.Native.Nat.{ℕ, _≤_, _<_, _^_, max}
 use native.Mathlib.Omega.{arith}
@@ -14,14 +14,13 @@ use Rattle.wants.specs.Wants.{Hist}
 use Rattle.head.specs.declared.Shedder.{Shedder}
 use Rattle.head.specs.declared.Answer.{Answer}
 use Rattle.head.specs.declared.Cause.{Cause}
-use Rattle.head.specs.declared.Done.{Done}
 use Rattle.head.specs.Readings.{index-of}
-use Rattle.scan.specs.Scanning.{Scanning, scanning, scanned}
+use Rattle.scan.specs.Scanning.{scanning, scanned}
 use Rattle.shed.specs.declared.Passed.{Passed}
 use Rattle.shed.specs.declared.Cutting.{Cutting}
 use Rattle.shed.specs.Counting.{Tally, tally, told, tallied}
-use Rattle.shed.specs.Judging.{Through, passed, judged, answer-of, Memory, memory, Judged, judge-ends, bounded-scanned, bounded-told, bounded-passed, bounded}
-use Rattle.shed.specs.Cutting.{KeptBy, kept-by, Cut, cut-ends, cut-noted, cut-after, Noted, noting, noted-as, noted}
+use Rattle.shed.specs.Judging.{passed, judged, answer-of, memory, judge-ends, bounded-scanned, bounded-told, bounded-passed, bounded}
+use Rattle.shed.specs.Cutting.{KeptBy, kept-by, cut-ends, cut-noted, cut-after, noting, noted-as, noted}
 
 pub bounded-is : (h : Shedder) (m : Rows) (g : Hist) (k : List (List ℕ)) (u : Unit) (cost : List ℕ) (stamp : ℕ)
     (clock : ℕ) (paid : List Float) (p : Passed) (m1 : Rows) (w : Words) (t : Shedder) (k1 : List (List ℕ)) (s : Shedder) (m2 : Rows) (g1 : Hist) (a : Answer)

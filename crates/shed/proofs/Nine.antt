@@ -1,11 +1,11 @@
 -- Question 9 is never answered no: what a search finds is what was searched for. Assumes nothing.
-use mathlib.Core.Path.{_≡_, refl, sym, ap, _∙_}
+use mathlib.Core.Path.{_≡_, refl, sym}
 use Prim.Native.Nat.{ℕ, zero, suc, _<_}
 use native.Mathlib.Omega.{arith}
 use mathlib.Core.Bool.{Bool, true, false, cond}
 use mathlib.Core.List.{List}
 use lib.Dec.{ltb}
-use borrow.Author.Tests.{ltb-true, ltb-false, le-ltb}
+use borrow.Author.Tests.{ltb-true}
 use Rattle.sender.specs.declared.Name.{Name}
 use Rattle.store.specs.Store.{first, find, is-at}
 use Rattle.shed.specs.Entering.{is-misplaced}

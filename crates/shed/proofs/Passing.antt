@@ -1,5 +1,5 @@
 -- A judgement on a record, and a hand-back, from their parts: the code's results, each tied to its definition, make up the definition. Assumes nothing.
-use mathlib.Core.Path.{_≡_, refl, sym, ap, _∙_}
+use mathlib.Core.Path.{_≡_, ap, _∙_}
 use Prim.Native.Nat.{ℕ, _-_}
 use mathlib.Core.List.{List}
 use lib.Ieee.{Float}
@@ -9,7 +9,6 @@ use Rattle.flow.specs.declared.Use.{Use}
 use Rattle.flow.specs.declared.Outcome.{Outcome}
 use Rattle.sender.specs.declared.Unit.{Unit}
 use Rattle.sender.specs.declared.Name.{Name}
-use Rattle.sender.specs.declared.Words.{Words}
 use Rattle.sender.specs.Sender.{name-of, hash-of, words-of}
 use Rattle.store.specs.Store.{Rows, rows}
 use Rattle.head.specs.declared.Flow.{Flow}
@@ -17,7 +16,7 @@ use Rattle.head.specs.declared.Shedder.{Shedder}
 use Rattle.shed.specs.declared.Place.{Place}
 use Rattle.shed.specs.Entering.{Entered, entered, entry, used-at, Back, back, put-back, headed}
 use Rattle.shed.specs.Judging.{rank-at, outcome, outcome-at, flowed, Through, passing, judged-at, judged}
-use Rattle.shed.specs.Cutting.{lowered, flowed-back, KeptBy, kept-by, handed-with, handed-at, handed-back}
+use Rattle.shed.specs.Cutting.{lowered, flowed-back, kept-by, handed-with, handed-at, handed-back}
 
 -- a unit's name has its hash and its words
 pub named-hash : (n : Name) (u : Unit) → n ≡ name-of u → n .hash ≡ hash-of u

@@ -13,7 +13,6 @@ use Rattle.flow.specs.declared.Verdict.{Verdict}
 use Rattle.sender.specs.declared.Unit.{Unit}
 use Rattle.sender.specs.declared.Words.{Words}
 use Rattle.sender.specs.Sender.{words-of, name-of, is-overflow}
-use Rattle.store.specs.Store as store
 use Rattle.counted.specs.Counted as counts
 use Rattle.store.specs.Store.{Rows, find}
 use Rattle.counted.specs.Counted.{Sources, sources, counted-find, counted-up, counted-add}

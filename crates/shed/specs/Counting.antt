@@ -6,7 +6,6 @@ use Rattle.flow.specs.Flow.{is-admitted}
 use Rattle.flow.specs.declared.Verdict.{Verdict}
 use Rattle.flow.specs.declared.Verdict.the-variants as verdict
 use Rattle.sender.specs.declared.Words.{Words}
-use Rattle.store.specs.Store as store
 use Rattle.counted.specs.Counted as counts
 use Rattle.head.specs.declared.Shedder.{Shedder}
 use Rattle.head.specs.Numbers.{choose}

@@ -9,8 +9,6 @@ use lib.Ieee.{Float, binary64}
 use Rattle.ieee.specs.Extremes.{most}
 use Rattle.flow.specs.Flow as flow
 use Rattle.flow.specs.Flow.{nothing, at, upto, zeros}
-use Rattle.flow.specs.declared.Bucket.{Bucket}
-use Rattle.flow.specs.declared.Use.{Use}
 use Rattle.sender.specs.declared.Unit as unit
 use Rattle.sender.specs.declared.Words.{Words}
 use Rattle.sender.specs.Sender as sender

@@ -1,5 +1,5 @@
 -- What an exported call leaves is told by what the call behind it leaves. Assumes nothing.
-use mathlib.Core.Path.{_≡_, refl, sym, ap, _∙_}
+use mathlib.Core.Path.{_≡_, ap, _∙_}
 use mathlib.Core.List.{List}
 use Prim.Native.Nat.{ℕ}
 use Rattle.sender.specs.declared.Unit as unit

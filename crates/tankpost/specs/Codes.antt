@@ -2,7 +2,7 @@
 -- A refused call answers document 01's number, 1 to 9. A call that was taken answers 0, but for the two verdicts that cut a batch: 16 and 17.
 use Prim.Native.Nat.{ℕ}
 use lib.Dec.{eqb}
-use lib.Ieee.{Float, binary64, ofBits}
+use lib.Ieee.{binary64, ofBits}
 use Rattle.head.specs.declared.Answer.{Answer}
 use Rattle.head.specs.declared.Answer.the-variants as answer
 use Rattle.head.specs.declared.Cause.{Cause}

@@ -1,11 +1,10 @@
 -- One line of the trial answered: the shedder, its lent memory and the page of answers before and after. Definitions only.
 use Prim.Native.Nat.{ℕ}
-use mathlib.Core.Bool.{Bool, true, false, cond}
+use mathlib.Core.Bool.{Bool, true, cond}
 use mathlib.Core.List.{List, [], _∷_}
 use lib.Dec.{eqb, leb}
 use lib.ListN.{length}
 use Rattle.text.specs.Page.{Page, page, write}
-use Rattle.store.specs.Store.{Rows}
 use Rattle.head.specs.declared.Shedder.{Shedder}
 use Rattle.head.specs.declared.Begin as begin
 use Rattle.head.specs.declared.Begin.the-variants.{Started, Refused}

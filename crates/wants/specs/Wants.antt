@@ -1,6 +1,6 @@
 -- The histogram of wants, its clearing and filling, and the level found from it. Definitions only.
 use Prim.Native.Nat.{ℕ, zero, suc, _+_, _%_, _^_}
-use mathlib.Core.Bool.{Bool, true, false, cond}
+use mathlib.Core.Bool.{cond}
 use mathlib.Core.List.{List, []}
 use lib.Dec.{eqb}
 use lib.IntN.{pos}

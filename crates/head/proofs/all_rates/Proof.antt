@@ -1,18 +1,13 @@
 use Rattle.head.specs.Questions.{all-rates, is-rate}
-use lib.Dec.{leb}
-use lib.ListN.{getD, replicate}
-use Rattle.flow.proofs.Parts.{upto-none, upto-next, all-none, all-next}
-use Rattle.flow.specs.Flow.{dims, at, upto, all, nothing}
+use lib.ListN.{getD}
+use Rattle.flow.proofs.Parts.{all-none, all-next}
+use Rattle.flow.specs.Flow.{dims, all}
 use native.Mathlib.Omega.{arith}
-use Prim.Native.Nat.{ℕ, _≤_, _<_, _-_, _+_}
-use mathlib.Core.Path.{_≡_, refl, sym, ap, _∙_}
+use Prim.Native.Nat.{ℕ, _≤_, _-_}
+use mathlib.Core.Path.{_≡_}
 use borrow.Author.Needs.{needs}
 use Rattle.head.proofs.all_rates.Statement.{statement}
 use Rattle.head.proofs.all_rates.Tie as tie
-use Rattle.head.proofs.all_rates.Reads as reads
-use Rattle.head.proofs.all_rates.Lts as lts
-use Rattle.head.proofs.both.Reads as both-reads
-use Rattle.head.proofs.is_rate.Reads as is-rate-reads
 
 abbrev Inv-loop : tie.InvT-loop
 Inv-loop xs ok₀ d₀ ok d = (d ≤ dims) × (ok ≡ all (λ (i : ℕ). is-rate (getD xs i 0)) d)

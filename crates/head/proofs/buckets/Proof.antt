@@ -1,18 +1,14 @@
 use Rattle.head.specs.Numbers.{dims}
 use Rattle.head.specs.Start.{buckets}
-use lib.Ieee.{binary64, add, sub, mul, div, ofBits}
 use lib.ListN.{getD, replicate}
-use Rattle.flow.proofs.Parts.{upto-none, upto-next, all-none, all-next}
-use Rattle.flow.specs.Flow.{at, upto, all, nothing, opened}
+use Rattle.flow.proofs.Parts.{upto-none, upto-next}
+use Rattle.flow.specs.Flow.{upto, nothing, opened}
 use native.Mathlib.Omega.{arith}
-use Prim.Native.Nat.{ℕ, _≤_, _<_, _-_, _+_}
-use mathlib.Core.Path.{_≡_, refl, sym, ap, _∙_}
+use Prim.Native.Nat.{ℕ, _≤_, _-_}
+use mathlib.Core.Path.{_≡_}
 use borrow.Author.Needs.{needs}
 use Rattle.head.proofs.buckets.Statement.{statement}
 use Rattle.head.proofs.buckets.Tie as tie
-use Rattle.head.proofs.buckets.Reads as reads
-use Rattle.head.proofs.buckets.Lts as lts
-use Rattle.flow.proofs.Bucket.new.Reads as new-reads
 
 abbrev Inv-loop : tie.InvT-loop
 Inv-loop rate ceiling out₀ d₀ out d = (d ≤ dims) × (out ≡ upto (λ (i : ℕ). opened (getD rate i 0) (getD ceiling i 0)) d (replicate dims (record { tokens = nothing; burst = nothing; «rate_per_ms» = nothing })))

@@ -1,17 +1,14 @@
 use Rattle.head.specs.Questions.{costs-held}
 use lib.Dec.{leb}
-use lib.ListN.{getD, replicate}
-use Rattle.flow.proofs.Parts.{upto-none, upto-next, all-none, all-next}
-use Rattle.flow.specs.Flow.{dims, at, upto, all, nothing}
+use lib.ListN.{getD}
+use Rattle.flow.proofs.Parts.{all-none, all-next}
+use Rattle.flow.specs.Flow.{dims, all}
 use native.Mathlib.Omega.{arith}
-use Prim.Native.Nat.{ℕ, _≤_, _<_, _-_, _+_}
-use mathlib.Core.Path.{_≡_, refl, sym, ap, _∙_}
+use Prim.Native.Nat.{ℕ, _≤_, _-_}
+use mathlib.Core.Path.{_≡_}
 use borrow.Author.Needs.{needs}
 use Rattle.head.proofs.costs_held.Statement.{statement}
 use Rattle.head.proofs.costs_held.Tie as tie
-use Rattle.head.proofs.costs_held.Reads as reads
-use Rattle.head.proofs.costs_held.Lts as lts
-use Rattle.head.proofs.both.Reads as both-reads
 
 abbrev Inv-loop : tie.InvT-loop
 Inv-loop xs ok₀ d₀ ok d = (d ≤ dims) × (ok ≡ all (λ (i : ℕ). leb (getD xs i 0) 1099511627776) d)

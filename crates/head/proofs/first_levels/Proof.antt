@@ -1,19 +1,15 @@
 use Rattle.head.specs.Numbers.{dims}
 use Rattle.head.specs.Start.{first-levels}
-use lib.Ieee.{binary64, add, sub, mul, div, ofBits}
-use lib.ListN.{getD, replicate}
-use Rattle.flow.proofs.Parts.{upto-none, upto-next, all-none, all-next}
+use lib.Ieee.{binary64, ofBits}
+use Rattle.flow.proofs.Parts.{upto-none, upto-next}
 use Rattle.flow.specs.Flow.{at, upto, zeros}
 use Rattle.ieee.specs.Extremes.{least}
 use native.Mathlib.Omega.{arith}
-use Prim.Native.Nat.{ℕ, _≤_, _<_, _-_, _+_}
-use mathlib.Core.Path.{_≡_, refl, sym, ap, _∙_}
+use Prim.Native.Nat.{ℕ, _≤_, _-_}
+use mathlib.Core.Path.{_≡_}
 use borrow.Author.Needs.{needs}
 use Rattle.head.proofs.first_levels.Statement.{statement}
 use Rattle.head.proofs.first_levels.Tie as tie
-use Rattle.head.proofs.first_levels.Reads as reads
-use Rattle.head.proofs.first_levels.Lts as lts
-use Rattle.ieee.proofs.min.Reads as min-reads
 
 abbrev Inv-loop : tie.InvT-loop
 Inv-loop rate out₀ d₀ out d = (d ≤ dims) × (out ≡ upto (λ (i : ℕ). least (at rate i) (ofBits binary64 0x430c_6bf5_2634_0000)) d zeros)

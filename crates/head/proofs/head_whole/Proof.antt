@@ -1,17 +1,7 @@
 use Rattle.head.specs.Questions.{head-whole}
-use mathlib.Core.Path.{_≡_, refl, sym, ap, _∙_}
 use borrow.Author.Needs.{needs}
 use Rattle.head.proofs.head_whole.Statement.{statement}
 use Rattle.head.proofs.head_whole.Tie as tie
-use Rattle.head.proofs.head_whole.Reads as reads
-use Rattle.head.proofs.head_whole.Lts as lts
-use Rattle.head.proofs.all_rates.Reads as all-rates-reads
-use Rattle.head.proofs.both.Reads as both-reads
-use Rattle.head.proofs.either.Reads as either-reads
-use Rattle.head.proofs.is_unbounded.Reads as is-unbounded-reads
-use Rattle.head.proofs.rooms_whole.Reads as rooms-whole-reads
-use Rattle.head.proofs.stamps_whole.Reads as stamps-whole-reads
-use Rattle.head.proofs.tables_whole.Reads as tables-whole-reads
 
 is-unbounded-requires : tie.Need-is-unbounded-requires
 is-unbounded-requires c κs = search needs

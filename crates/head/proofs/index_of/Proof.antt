@@ -2,8 +2,6 @@ use Rattle.head.specs.Readings.{index-of}
 use borrow.Author.Needs.{needs}
 use Rattle.head.proofs.index_of.Statement.{statement}
 use Rattle.head.proofs.index_of.Tie as tie
-use Rattle.head.proofs.index_of.Reads as reads
-use Rattle.head.proofs.index_of.Lts as lts
 
 enum-told : tie.Need-enum-told
 enum-told c = search needs

@@ -1,10 +1,7 @@
 use Rattle.head.specs.Questions.{is-rate}
-use borrow.Author.Tests.{eq-eqb, ne-eqb, lt-ltb, le-ltb, eqb-true, le-leb, lt-leb}
-use mathlib.Core.Path.{_≡_, refl, sym, ap, _∙_}
+use borrow.Author.Tests.{le-leb, lt-leb}
 use Rattle.head.proofs.is_rate.Statement.{statement}
 use Rattle.head.proofs.is_rate.Tie as tie
-use Rattle.head.proofs.is_rate.Reads as reads
-use Rattle.head.proofs.is_rate.Lts as lts
 
 returns : tie.Need-returns
 unfolding is-rate

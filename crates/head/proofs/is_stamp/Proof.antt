@@ -1,9 +1,7 @@
 use Rattle.head.specs.Questions.{is-stamp}
-use mathlib.Core.Path.{_≡_, refl, sym, ap, _∙_}
+use mathlib.Core.Path.{refl}
 use Rattle.head.proofs.is_stamp.Statement.{statement}
 use Rattle.head.proofs.is_stamp.Tie as tie
-use Rattle.head.proofs.is_stamp.Reads as reads
-use Rattle.head.proofs.is_stamp.Lts as lts
 
 returns : tie.Need-returns
 unfolding is-stamp

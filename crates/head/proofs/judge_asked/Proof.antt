@@ -1,14 +1,8 @@
 use Rattle.head.specs.Questions.{judge-asked}
-use mathlib.Core.Path.{_≡_, refl, sym, ap, _∙_}
+use mathlib.Core.Path.{sym}
 use borrow.Author.Needs.{needs}
 use Rattle.head.proofs.judge_asked.Statement.{statement}
 use Rattle.head.proofs.judge_asked.Tie as tie
-use Rattle.head.proofs.judge_asked.Reads as reads
-use Rattle.head.proofs.judge_asked.Lts as lts
-use Rattle.head.proofs.costs_held.Reads as costs-held-reads
-use Rattle.head.proofs.head_whole.Reads as head-whole-reads
-use Rattle.head.proofs.is_stamp.Reads as is-stamp-reads
-use Rattle.head.proofs.memory_whole.Reads as memory-whole-reads
 
 head-whole-requires : tie.Need-head-whole-requires
 head-whole-requires c κs = search needs

@@ -1,14 +1,7 @@
 use Rattle.head.specs.Start.{opening}
-use mathlib.Core.Path.{_≡_, refl, sym, ap, _∙_}
 use borrow.Author.Needs.{needs}
 use Rattle.head.proofs.opening.Statement.{statement}
 use Rattle.head.proofs.opening.Tie as tie
-use Rattle.head.proofs.opening.Reads as reads
-use Rattle.head.proofs.opening.Lts as lts
-use Rattle.flow.proofs.Use.new.Reads as new-reads
-use Rattle.head.proofs.buckets.Reads as buckets-reads
-use Rattle.head.proofs.first_levels.Reads as first-levels-reads
-use Rattle.flow.proofs.numbers.Reads as numbers-reads
 
 buckets-requires : tie.Need-buckets-requires
 buckets-requires c κs = search needs

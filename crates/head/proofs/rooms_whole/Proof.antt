@@ -1,10 +1,7 @@
 use Rattle.head.specs.Questions.{rooms-whole}
-use borrow.Author.Tests.{eq-eqb, ne-eqb, lt-ltb, le-ltb, eqb-true, le-leb, lt-leb}
-use mathlib.Core.Path.{_≡_, refl, sym, ap, _∙_}
+use borrow.Author.Tests.{lt-ltb, le-ltb}
 use Rattle.head.proofs.rooms_whole.Statement.{statement}
 use Rattle.head.proofs.rooms_whole.Tie as tie
-use Rattle.head.proofs.rooms_whole.Reads as reads
-use Rattle.head.proofs.rooms_whole.Lts as lts
 
 returns : tie.Need-returns
 unfolding rooms-whole

@@ -1,12 +1,8 @@
 use Rattle.head.specs.Questions.{sizes-whole}
-use borrow.Author.Tests.{eq-eqb, ne-eqb, lt-ltb, le-ltb, eqb-true, le-leb, lt-leb}
-use mathlib.Core.Path.{_≡_, refl, sym, ap, _∙_}
+use borrow.Author.Tests.{eq-eqb, ne-eqb}
 use borrow.Author.Needs.{needs}
 use Rattle.head.proofs.sizes_whole.Statement.{statement}
 use Rattle.head.proofs.sizes_whole.Tie as tie
-use Rattle.head.proofs.sizes_whole.Reads as reads
-use Rattle.head.proofs.sizes_whole.Lts as lts
-use Rattle.head.proofs.rooms_whole.Reads as rooms-whole-reads
 
 rooms-whole-requires : tie.Need-rooms-whole-requires
 rooms-whole-requires c κs = search needs

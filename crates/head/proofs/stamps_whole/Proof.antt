@@ -1,12 +1,7 @@
 use Rattle.head.specs.Questions.{stamps-whole}
-use mathlib.Core.Path.{_≡_, refl, sym, ap, _∙_}
 use borrow.Author.Needs.{needs}
 use Rattle.head.proofs.stamps_whole.Statement.{statement}
 use Rattle.head.proofs.stamps_whole.Tie as tie
-use Rattle.head.proofs.stamps_whole.Reads as reads
-use Rattle.head.proofs.stamps_whole.Lts as lts
-use Rattle.head.proofs.both.Reads as both-reads
-use Rattle.head.proofs.is_stamp.Reads as is-stamp-reads
 
 is-stamp-requires : tie.Need-is-stamp-requires
 is-stamp-requires c κs = search needs

@@ -1,15 +1,10 @@
 use Rattle.head.specs.Start.{start, start-ends}
 use Rattle.head.specs.Answers.{start-number}
-use borrow.Author.Tests.{eq-eqb, ne-eqb, lt-ltb, le-ltb, eqb-true, le-leb, lt-leb}
-use mathlib.Core.Path.{_≡_, refl, sym, ap, _∙_}
+use borrow.Author.Tests.{eq-eqb, ne-eqb}
+use mathlib.Core.Path.{sym, ap, _∙_}
 use borrow.Author.Needs.{needs}
 use Rattle.head.proofs.start.Statement.{statement}
 use Rattle.head.proofs.start.Tie as tie
-use Rattle.head.proofs.start.Reads as reads
-use Rattle.head.proofs.start.Lts as lts
-use Rattle.head.proofs.opening.Reads as opening-reads
-use Rattle.head.proofs.start_asked.Reads as start-asked-reads
-use Rattle.wants.proofs.clear.Reads as clear-reads
 
 start-asked-requires : tie.Need-start-asked-requires
 start-asked-requires c κs = search needs

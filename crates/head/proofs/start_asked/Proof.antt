@@ -1,14 +1,8 @@
 use Rattle.head.specs.Questions.{start-asked}
-use mathlib.Core.Path.{_≡_, refl, sym, ap, _∙_}
+use mathlib.Core.Path.{sym}
 use borrow.Author.Needs.{needs}
 use Rattle.head.proofs.start_asked.Statement.{statement}
 use Rattle.head.proofs.start_asked.Tie as tie
-use Rattle.head.proofs.start_asked.Reads as reads
-use Rattle.head.proofs.start_asked.Lts as lts
-use Rattle.head.proofs.all_rates.Reads as all-rates-reads
-use Rattle.head.proofs.either.Reads as either-reads
-use Rattle.head.proofs.is_unbounded.Reads as is-unbounded-reads
-use Rattle.head.proofs.sizes_whole.Reads as sizes-whole-reads
 
 is-unbounded-requires : tie.Need-is-unbounded-requires
 is-unbounded-requires c κs = search needs

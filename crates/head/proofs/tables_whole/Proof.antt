@@ -1,11 +1,8 @@
 use Rattle.head.specs.Questions.{tables-whole}
-use borrow.Author.Tests.{eq-eqb, ne-eqb, lt-ltb, le-ltb, eqb-true, le-leb, lt-leb}
-use mathlib.Core.Path.{_≡_, refl, sym, ap, _∙_}
+use borrow.Author.Tests.{eq-eqb, ne-eqb, le-leb, lt-leb}
 use borrow.Author.Needs.{needs}
 use Rattle.head.proofs.tables_whole.Statement.{statement}
 use Rattle.head.proofs.tables_whole.Tie as tie
-use Rattle.head.proofs.tables_whole.Reads as reads
-use Rattle.head.proofs.tables_whole.Lts as lts
 
 add-if3 : tie.Need-add-if3
 add-if3 c = search needs

@@ -1,7 +1,7 @@
 -- `ieee::clamp` meets its contract: the first test gives `raised`, by either arm, and the second picks by it. Assumes nothing.
-use mathlib.Core.Path.{_≡_, sym, ap, _∙_}
+use mathlib.Core.Path.{_≡_}
 use mathlib.Core.Logic.{⊎-elim}
-use mathlib.Core.Bool.{Bool, true, false, cond}
+use mathlib.Core.Bool.{true, false, cond}
 use lib.Ieee.{Float, lt}
 use Rattle.ieee.specs.Extremes.{clamped}
 use Rattle.ieee.proofs.clamp.Statement.{statement}

@@ -3,16 +3,13 @@ use Rattle.wants.specs.Wants as wants
 use Rattle.wants.specs.Wants.{Hist, hist}
 use Rattle.head.specs.Numbers.{dims}
 use Rattle.scan.specs.Walking.{adds}
-use Rattle.flow.specs.Flow.{at, upto, all, nothing, one}
+use Rattle.flow.specs.Flow.{at}
 use native.Mathlib.Omega.{arith}
-use Prim.Native.Nat.{ℕ, _≤_, _<_, _-_, _+_}
-use mathlib.Core.Path.{_≡_, refl, sym, ap, _∙_}
+use Prim.Native.Nat.{_≤_, _-_}
+use mathlib.Core.Path.{_≡_, sym, ap, _∙_}
 use borrow.Author.Needs.{needs}
 use Rattle.scan.proofs.add_all.Statement.{statement}
 use Rattle.scan.proofs.add_all.Tie as tie
-use Rattle.scan.proofs.add_all.Reads as reads
-use Rattle.scan.proofs.add_all.Lts as lts
-use Rattle.wants.proofs.add.Reads as add-reads
 
 abbrev Inv-loop : tie.InvT-loop
 Inv-loop counts₀ sums₀ want d₀ counts sums d = (d ≤ dims) × (hist counts sums ≡ adds want d (hist counts₀ sums₀))

@@ -1,12 +1,8 @@
 use Rattle.scan.specs.Scanning.{again}
-use borrow.Author.Tests.{eq-eqb, ne-eqb, lt-ltb, le-ltb, eqb-true, le-leb, lt-leb}
-use mathlib.Core.Path.{_≡_, refl, sym, ap, _∙_}
+use borrow.Author.Tests.{le-leb, lt-leb}
 use borrow.Author.Needs.{needs}
 use Rattle.scan.proofs.again.Statement.{statement}
 use Rattle.scan.proofs.again.Tie as tie
-use Rattle.scan.proofs.again.Reads as reads
-use Rattle.scan.proofs.again.Lts as lts
-use Rattle.scan.proofs.visit.Reads as visit-reads
 
 visit-requires : tie.Need-visit-requires
 visit-requires c κs = search needs

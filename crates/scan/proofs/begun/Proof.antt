@@ -1,18 +1,14 @@
 use Rattle.head.proofs.Bounds.{le-by}
-use Prim.Native.Nat.{ℕ, _≤_, _<_, _-_, _+_}
+use Prim.Native.Nat.{_-_, _+_}
 use native.Mathlib.Omega.{arith}
 use Rattle.head.specs.declared.Shedder.{Shedder}
 use Rattle.scan.specs.Scanning.{opened}
 use Rattle.scan.specs.Scanning.{begun, started}
-use borrow.Author.Tests.{eq-eqb, ne-eqb, lt-ltb, le-ltb, eqb-true, le-leb, lt-leb}
-use mathlib.Core.Path.{_≡_, refl, sym, ap, _∙_}
+use borrow.Author.Tests.{lt-ltb, le-ltb, le-leb, lt-leb}
+use mathlib.Core.Path.{refl, ap}
 use borrow.Author.Needs.{needs}
 use Rattle.scan.proofs.begun.Statement.{statement}
 use Rattle.scan.proofs.begun.Tie as tie
-use Rattle.scan.proofs.begun.Reads as reads
-use Rattle.scan.proofs.begun.Lts as lts
-use Rattle.scan.proofs.opened.Reads as opened-reads
-use Rattle.wants.proofs.clear.Reads as clear-reads
 
 returns : tie.Need-returns
 unfolding begun opened

@@ -1,12 +1,8 @@
 use Rattle.scan.specs.Scanning.{ended}
-use borrow.Author.Tests.{eq-eqb, ne-eqb, lt-ltb, le-ltb, eqb-true, le-leb, lt-leb}
-use mathlib.Core.Path.{_≡_, refl, sym, ap, _∙_}
+use borrow.Author.Tests.{eq-eqb, ne-eqb}
 use borrow.Author.Needs.{needs}
 use Rattle.scan.proofs.ended.Statement.{statement}
 use Rattle.scan.proofs.ended.Tie as tie
-use Rattle.scan.proofs.ended.Reads as reads
-use Rattle.scan.proofs.ended.Lts as lts
-use Rattle.scan.proofs.trimmed.Reads as trimmed-reads
 
 trimmed-requires : tie.Need-trimmed-requires
 trimmed-requires c κs = search needs

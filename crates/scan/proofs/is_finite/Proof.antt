@@ -1,8 +1,6 @@
 use Rattle.scan.specs.Trimming.{is-finite}
 use Rattle.scan.proofs.is_finite.Statement.{statement}
 use Rattle.scan.proofs.is_finite.Tie as tie
-use Rattle.scan.proofs.is_finite.Reads as reads
-use Rattle.scan.proofs.is_finite.Lts as lts
 
 returns : tie.Need-returns
 unfolding is-finite

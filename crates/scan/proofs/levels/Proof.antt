@@ -1,19 +1,15 @@
 use Rattle.head.specs.Numbers.{dims}
 use Rattle.scan.specs.Trimming.{levels}
-use lib.Ieee.{binary64, add, sub, mul, div}
-use lib.ListN.{getD, replicate}
-use Rattle.flow.proofs.Parts.{upto-none, upto-next, all-none, all-next}
+use lib.Ieee.{binary64, mul}
+use Rattle.flow.proofs.Parts.{upto-none, upto-next}
 use Rattle.flow.specs.Flow.{at, upto, zeros, one}
 use Rattle.ieee.specs.Extremes.{most}
 use native.Mathlib.Omega.{arith}
-use Prim.Native.Nat.{ℕ, _≤_, _<_, _-_, _+_}
-use mathlib.Core.Path.{_≡_, refl, sym, ap, _∙_}
+use Prim.Native.Nat.{ℕ, _≤_, _-_}
+use mathlib.Core.Path.{_≡_}
 use borrow.Author.Needs.{needs}
 use Rattle.scan.proofs.levels.Statement.{statement}
 use Rattle.scan.proofs.levels.Tie as tie
-use Rattle.scan.proofs.levels.Reads as reads
-use Rattle.scan.proofs.levels.Lts as lts
-use Rattle.ieee.proofs.max.Reads as max-reads
 
 abbrev Inv-loop : tie.InvT-loop
 Inv-loop gap trim out₀ d₀ out d = (d ≤ dims) × (out ≡ upto (λ (i : ℕ). most (mul binary64 (at gap i) (at trim i)) one) d zeros)

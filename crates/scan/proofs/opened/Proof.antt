@@ -1,9 +1,7 @@
 use Rattle.scan.specs.Scanning.{opened}
-use mathlib.Core.Path.{_≡_, refl, sym, ap, _∙_}
+use mathlib.Core.Path.{refl}
 use Rattle.scan.proofs.opened.Statement.{statement}
 use Rattle.scan.proofs.opened.Tie as tie
-use Rattle.scan.proofs.opened.Reads as reads
-use Rattle.scan.proofs.opened.Lts as lts
 
 returns : tie.Need-returns
 unfolding opened

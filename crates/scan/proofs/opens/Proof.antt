@@ -1,19 +1,14 @@
 use Rattle.wants.specs.Wants.{hist, level}
 use Rattle.head.specs.Numbers.{dims}
 use Rattle.scan.specs.Trimming.{opens}
-use lib.Ieee.{binary64, add, sub, mul, div}
-use lib.ListN.{getD, replicate}
-use Rattle.flow.proofs.Parts.{upto-none, upto-next, all-none, all-next}
-use Rattle.flow.specs.Flow.{at, upto, zeros, one}
+use Rattle.flow.proofs.Parts.{upto-none, upto-next}
+use Rattle.flow.specs.Flow.{at, upto, zeros}
 use native.Mathlib.Omega.{arith}
-use Prim.Native.Nat.{ℕ, _≤_, _<_, _-_, _+_}
-use mathlib.Core.Path.{_≡_, refl, sym, ap, _∙_}
+use Prim.Native.Nat.{ℕ, _≤_, _-_}
+use mathlib.Core.Path.{_≡_}
 use borrow.Author.Needs.{needs}
 use Rattle.scan.proofs.opens.Statement.{statement}
 use Rattle.scan.proofs.opens.Tie as tie
-use Rattle.scan.proofs.opens.Reads as reads
-use Rattle.scan.proofs.opens.Lts as lts
-use Rattle.wants.proofs.level.Reads as level-reads
 
 abbrev Inv-loop : tie.InvT-loop
 Inv-loop counts sums rate out₀ d₀ out d = (d ≤ dims) × (out ≡ upto (λ (i : ℕ). level (hist counts sums) i (at rate i)) d zeros)

@@ -1,16 +1,10 @@
 use Rattle.scan.proofs.Scanning.{scanned-on, scanned-off}
 use Rattle.head.proofs.Bounds.{held-on}
-use borrow.Author.Tests.{eq-eqb, ne-eqb, lt-ltb, le-ltb, eqb-true, le-leb, lt-leb}
-use mathlib.Core.Path.{_≡_, refl, sym, ap, _∙_}
+use borrow.Author.Tests.{le-leb, lt-leb}
+use mathlib.Core.Path.{_∙_}
 use borrow.Author.Needs.{needs}
 use Rattle.scan.proofs.scanned.Statement.{statement}
 use Rattle.scan.proofs.scanned.Tie as tie
-use Rattle.scan.proofs.scanned.Reads as reads
-use Rattle.scan.proofs.scanned.Lts as lts
-use Rattle.scan.proofs.again.Reads as again-reads
-use Rattle.scan.proofs.begun.Reads as begun-reads
-use Rattle.scan.proofs.ended.Reads as ended-reads
-use Rattle.scan.proofs.visit.Reads as visit-reads
 
 begun-requires : tie.Need-begun-requires
 begun-requires c κs = search needs

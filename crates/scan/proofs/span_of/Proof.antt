@@ -1,12 +1,7 @@
 use Rattle.scan.specs.Trimming.{span-of}
-use mathlib.Core.Path.{_≡_, refl, sym, ap, _∙_}
 use borrow.Author.Needs.{needs}
 use Rattle.scan.proofs.span_of.Statement.{statement}
 use Rattle.scan.proofs.span_of.Tie as tie
-use Rattle.scan.proofs.span_of.Reads as reads
-use Rattle.scan.proofs.span_of.Lts as lts
-use Rattle.scan.proofs.number.Reads as number-reads
-use Rattle.head.proofs.since.Reads as since-reads
 
 since-requires : tie.Need-since-requires
 since-requires c κs = search needs

@@ -2,15 +2,10 @@ use Rattle.scan.specs.Trimming.{trim-of}
 use Rattle.ieee.specs.Extremes.{clamped}
 use Rattle.flow.specs.Flow.{half, one}
 use lib.Ieee.{Float, binary64, mul}
-use mathlib.Core.Path.{_≡_, refl, sym, ap, _∙_}
+use mathlib.Core.Path.{sym, ap, _∙_}
 use borrow.Author.Needs.{needs}
 use Rattle.scan.proofs.trim_of.Statement.{statement}
 use Rattle.scan.proofs.trim_of.Tie as tie
-use Rattle.scan.proofs.trim_of.Reads as reads
-use Rattle.scan.proofs.trim_of.Lts as lts
-use Rattle.ieee.proofs.clamp.Reads as clamp-reads
-use Rattle.scan.proofs.is_finite.Reads as is-finite-reads
-use Rattle.scan.proofs.step_of.Reads as step-of-reads
 
 is-finite-requires : tie.Need-is-finite-requires
 is-finite-requires c κs = search needs

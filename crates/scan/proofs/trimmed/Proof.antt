@@ -1,15 +1,7 @@
 use Rattle.scan.specs.Trimming.{trimmed}
-use mathlib.Core.Path.{_≡_, refl, sym, ap, _∙_}
 use borrow.Author.Needs.{needs}
 use Rattle.scan.proofs.trimmed.Statement.{statement}
 use Rattle.scan.proofs.trimmed.Tie as tie
-use Rattle.scan.proofs.trimmed.Reads as reads
-use Rattle.scan.proofs.trimmed.Lts as lts
-use Rattle.scan.proofs.opens.Reads as opens-reads
-use Rattle.scan.proofs.levels.Reads as levels-reads
-use Rattle.flow.proofs.numbers.Reads as numbers-reads
-use Rattle.scan.proofs.span_of.Reads as span-of-reads
-use Rattle.scan.proofs.trims.Reads as trims-reads
 
 numbers-requires : tie.Need-numbers-requires
 numbers-requires c κs = search needs

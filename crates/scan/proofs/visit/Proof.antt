@@ -2,18 +2,11 @@ use Rattle.scan.proofs.Scanning.{visit-is, moved-on}
 use Rattle.head.proofs.Bounds.{le-by}
 use Rattle.scan.specs.Scanning.{visited}
 use Rattle.head.specs.declared.Shedder.{Shedder}
-use Prim.Native.Nat.{ℕ, _≤_, _<_, _-_, _+_}
-use native.Mathlib.Omega.{arith}
-use mathlib.Core.Path.{_≡_, refl, sym, ap, _∙_}
+use Prim.Native.Nat.{_-_, _+_}
+use mathlib.Core.Path.{ap}
 use borrow.Author.Needs.{needs}
 use Rattle.scan.proofs.visit.Statement.{statement}
 use Rattle.scan.proofs.visit.Tie as tie
-use Rattle.scan.proofs.visit.Reads as reads
-use Rattle.scan.proofs.visit.Lts as lts
-use Rattle.scan.proofs.visited.Reads as visited-reads
-use Rattle.scan.proofs.walk.Reads as walk-reads
-use Rattle.scan.proofs.walk_overflow.Reads as walk-overflow-reads
-use Rattle.store.proofs.retain.Reads as retain-reads
 
 walk-overflow-requires : tie.Need-walk-overflow-requires
 walk-overflow-requires c κs = search needs

@@ -1,11 +1,7 @@
 use Rattle.scan.specs.Scanning.{visited}
-use mathlib.Core.Path.{_≡_, refl, sym, ap, _∙_}
 use borrow.Author.Needs.{needs}
 use Rattle.scan.proofs.visited.Statement.{statement}
 use Rattle.scan.proofs.visited.Tie as tie
-use Rattle.scan.proofs.visited.Reads as reads
-use Rattle.scan.proofs.visited.Lts as lts
-use Rattle.std.proofs.num.wrapping_add_u64.Reads as wrapping-add-u64-reads
 
 add-s : tie.Need-add-s
 add-s c = search needs

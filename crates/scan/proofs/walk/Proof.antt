@@ -1,17 +1,14 @@
 use Rattle.scan.proofs.Turns.{walk-none, walk-next, walk-past}
 use Rattle.store.specs.Store.{rows}
-use Rattle.wants.specs.Wants.{Hist, hist}
+use Rattle.wants.specs.Wants.{hist}
 use lib.ListN.{length}
 use Rattle.scan.specs.Walking.{walk, walk-one}
 use native.Mathlib.Omega.{arith}
-use Prim.Native.Nat.{ℕ, _≤_, _<_, _-_, _+_}
-use mathlib.Core.Path.{_≡_, refl, sym, ap, _∙_}
+use Prim.Native.Nat.{_≤_, _-_}
+use mathlib.Core.Path.{_≡_, sym, ap, _∙_}
 use borrow.Author.Needs.{needs}
 use Rattle.scan.proofs.walk.Statement.{statement}
 use Rattle.scan.proofs.walk.Tie as tie
-use Rattle.scan.proofs.walk.Reads as reads
-use Rattle.scan.proofs.walk.Lts as lts
-use Rattle.scan.proofs.walk_one.Reads as walk-one-reads
 
 abbrev Inv-loop : tie.InvT-loop
 Inv-loop ids units uses counts₀ sums₀ n table at-ms i₀ counts sums i = (i ≤ n) × (n ≤ length ids) × (n ≤ length units) × (n ≤ length uses) × (hist counts sums ≡ walk (rows ids units uses) table at-ms i (hist counts₀ sums₀))

@@ -1,14 +1,9 @@
 use Rattle.scan.specs.Walking.{walk-one}
-use borrow.Author.Tests.{eq-eqb, ne-eqb, lt-ltb, le-ltb, eqb-true, le-leb, lt-leb}
-use mathlib.Core.Path.{_≡_, refl, sym, ap, _∙_}
+use borrow.Author.Tests.{eq-eqb, ne-eqb}
+use mathlib.Core.Path.{sym}
 use borrow.Author.Needs.{needs}
 use Rattle.scan.proofs.walk_one.Statement.{statement}
 use Rattle.scan.proofs.walk_one.Tie as tie
-use Rattle.scan.proofs.walk_one.Reads as reads
-use Rattle.scan.proofs.walk_one.Lts as lts
-use Rattle.scan.proofs.walk_use.Reads as walk-use-reads
-use Rattle.store.proofs.table_at.Reads as table-at-reads
-use Rattle.store.proofs.use_at.Reads as use-at-reads
 
 table-at-requires : tie.Need-table-at-requires
 table-at-requires c κs = search needs

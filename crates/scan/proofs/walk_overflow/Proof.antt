@@ -1,12 +1,8 @@
 use Rattle.scan.specs.Walking.{walk-overflow}
-use borrow.Author.Tests.{eq-eqb, ne-eqb, lt-ltb, le-ltb, eqb-true, le-leb, lt-leb}
-use mathlib.Core.Path.{_≡_, refl, sym, ap, _∙_}
+use borrow.Author.Tests.{eq-eqb, ne-eqb}
 use borrow.Author.Needs.{needs}
 use Rattle.scan.proofs.walk_overflow.Statement.{statement}
 use Rattle.scan.proofs.walk_overflow.Tie as tie
-use Rattle.scan.proofs.walk_overflow.Reads as reads
-use Rattle.scan.proofs.walk_overflow.Lts as lts
-use Rattle.scan.proofs.walk_use.Reads as walk-use-reads
 
 returns : tie.Need-returns
 unfolding walk-overflow

@@ -1,12 +1,8 @@
 use Rattle.scan.specs.Walking.{walk-use}
-use mathlib.Core.Path.{_≡_, refl, sym, ap, _∙_}
+use mathlib.Core.Path.{sym}
 use borrow.Author.Needs.{needs}
 use Rattle.scan.proofs.walk_use.Statement.{statement}
 use Rattle.scan.proofs.walk_use.Tie as tie
-use Rattle.scan.proofs.walk_use.Reads as reads
-use Rattle.scan.proofs.walk_use.Lts as lts
-use Rattle.scan.proofs.add_all.Reads as add-all-reads
-use Rattle.flow.proofs.Use.rates.Reads as rates-reads
 
 rates-requires : tie.Need-rates-requires
 rates-requires c κs = search needs

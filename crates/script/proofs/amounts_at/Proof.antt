@@ -1,5 +1,4 @@
 -- `amounts_at` meets its contract.
-use mathlib.Core.Path.{_≡_, refl, sym, ap, _∙_}
 use Rattle.script.specs.Script.{amounts-at}
 use borrow.Author.Needs.{needs}
 use Rattle.script.proofs.amounts_at.Statement.{statement}

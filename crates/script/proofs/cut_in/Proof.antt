@@ -1,5 +1,5 @@
 -- `cut_in` meets its contract.
-use mathlib.Core.Path.{_≡_, refl, sym, ap, _∙_}
+use mathlib.Core.Path.{sym}
 use Rattle.script.specs.Script.{cut-in}
 use borrow.Author.Needs.{needs}
 use Rattle.script.proofs.cut_in.Statement.{statement}

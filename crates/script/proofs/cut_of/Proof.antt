@@ -1,5 +1,5 @@
 -- `cut_of` meets its contract.
-use mathlib.Core.Path.{_≡_, refl, sym, ap, _∙_}
+use mathlib.Core.Path.{sym}
 use Rattle.script.specs.Script.{cut-of}
 use borrow.Author.Needs.{needs}
 use Rattle.script.proofs.cut_of.Statement.{statement}

@@ -1,5 +1,5 @@
 -- `is_cause` meets its contract.
-use mathlib.Core.Path.{_≡_, refl, sym, ap, _∙_}
+use mathlib.Core.Path.{sym}
 use Rattle.script.specs.Script.{cause-in, cause-name, is-cause}
 use borrow.Author.Needs.{needs}
 use Rattle.script.proofs.is_cause.Statement.{statement}

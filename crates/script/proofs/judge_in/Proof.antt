@@ -1,5 +1,5 @@
 -- `judge_in` meets its contract.
-use mathlib.Core.Path.{_≡_, refl, sym, ap, _∙_}
+use mathlib.Core.Path.{sym}
 use Rattle.script.specs.Script.{judge-in}
 use borrow.Author.Needs.{needs}
 use Rattle.script.proofs.judge_in.Statement.{statement}

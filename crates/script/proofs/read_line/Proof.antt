@@ -1,5 +1,5 @@
 -- `read_line` meets its contract: by the kind of the line.
-use mathlib.Core.Path.{_≡_, refl, sym, ap, _∙_}
+use mathlib.Core.Path.{sym}
 use denote.Ref.{now}
 use Rattle.script.specs.Script.{line}
 use Rattle.script.proofs.Taking.{exactly}

@@ -1,12 +1,8 @@
 use Rattle.shed.specs.Judging.{admitted-then}
-use mathlib.Core.Path.{_≡_, refl, sym, ap, _∙_}
+use mathlib.Core.Path.{sym}
 use borrow.Author.Needs.{needs}
 use Rattle.shed.proofs.admitted_then.Statement.{statement}
 use Rattle.shed.proofs.admitted_then.Tie as tie
-use Rattle.shed.proofs.admitted_then.Reads as reads
-use Rattle.shed.proofs.admitted_then.Lts as lts
-use Rattle.shed.proofs.tally.is_admitted.Reads as is-admitted-reads
-use Rattle.shed.proofs.raised.Reads as raised-reads
 
 is-admitted-requires : tie.Need-is-admitted-requires
 is-admitted-requires c κs = search needs

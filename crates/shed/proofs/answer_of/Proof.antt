@@ -4,8 +4,6 @@ use mathlib.Core.Path.{refl}
 use borrow.Author.Needs.{needs}
 use Rattle.shed.proofs.answer_of.Statement.{statement}
 use Rattle.shed.proofs.answer_of.Tie as tie
-use Rattle.shed.proofs.answer_of.Reads as reads
-use Rattle.shed.proofs.answer_of.Lts as lts
 
 enum-told : tie.Need-enum-told
 enum-told c = search needs

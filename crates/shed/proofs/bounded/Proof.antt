@@ -2,19 +2,11 @@ use Rattle.shed.proofs.Passing.{named-words}
 use Rattle.shed.proofs.Bounding.{bounded-is, clock-held}
 use Rattle.head.proofs.Bounds.{le-by, lt-by, le-to}
 use Rattle.head.specs.declared.Scan.{Scan}
-use Prim.Native.Nat.{ℕ, _≤_, _<_, _-_, _+_}
-use mathlib.Core.Path.{_≡_, refl, sym, ap, _∙_}
+use Prim.Native.Nat.{_-_, _+_}
+use mathlib.Core.Path.{ap, _∙_}
 use borrow.Author.Needs.{needs}
 use Rattle.shed.proofs.bounded.Statement.{statement}
 use Rattle.shed.proofs.bounded.Tie as tie
-use Rattle.shed.proofs.bounded.Reads as reads
-use Rattle.shed.proofs.bounded.Lts as lts
-use Rattle.flow.proofs.numbers.Reads as numbers-reads
-use Rattle.scan.proofs.scanned.Reads as scanned-reads
-use Rattle.shed.proofs.answer_of.Reads as answer-of-reads
-use Rattle.shed.proofs.judged.Reads as judged-reads
-use Rattle.shed.proofs.later.Reads as later-reads
-use Rattle.shed.proofs.tally.told.Reads as told-reads
 
 later-requires : tie.Need-later-requires
 later-requires c κs = search needs

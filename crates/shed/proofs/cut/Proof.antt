@@ -6,22 +6,11 @@ use Rattle.head.specs.Answers.{cut-number}
 use Rattle.shed.specs.Cutting.{cut, handed-back}
 use Rattle.shed.proofs.Nine.{never-nine}
 use mathlib.Core.Bool.{true≢false}
-use borrow.Author.Tests.{eq-eqb, ne-eqb, lt-ltb, le-ltb, eqb-true, le-leb, lt-leb}
-use mathlib.Core.Path.{_≡_, refl, sym, ap, _∙_}
+use borrow.Author.Tests.{eq-eqb, ne-eqb}
+use mathlib.Core.Path.{refl, sym, ap, _∙_}
 use borrow.Author.Needs.{needs}
 use Rattle.shed.proofs.cut.Statement.{statement}
 use Rattle.shed.proofs.cut.Tie as tie
-use Rattle.shed.proofs.cut.Reads as reads
-use Rattle.shed.proofs.cut.Lts as lts
-use Rattle.flow.proofs.numbers.Reads as numbers-reads
-use Rattle.head.proofs.cut_asked.Reads as cut-asked-reads
-use Rattle.sender.proofs.name_of.Reads as name-of-reads
-use Rattle.sender.proofs.words_of.Reads as words-of-reads
-use Rattle.shed.proofs.handed_back.Reads as handed-back-reads
-use Rattle.shed.proofs.hands_back.Reads as hands-back-reads
-use Rattle.shed.proofs.is_misplaced.Reads as is-misplaced-reads
-use Rattle.shed.proofs.noted.Reads as noted-reads
-use Rattle.store.proofs.find.Reads as find-reads
 
 cut-asked-requires : tie.Need-cut-asked-requires
 cut-asked-requires c κs = search needs

@@ -1,14 +1,9 @@
 use Rattle.shed.specs.Entering.{entry, entered, place}
-use borrow.Author.Tests.{eq-eqb, ne-eqb, lt-ltb, le-ltb, eqb-true, le-leb, lt-leb}
-use mathlib.Core.Path.{_≡_, refl, sym, ap, _∙_}
+use borrow.Author.Tests.{lt-ltb, le-ltb}
+use mathlib.Core.Path.{sym, ap}
 use borrow.Author.Needs.{needs}
 use Rattle.shed.proofs.entry.Statement.{statement}
 use Rattle.shed.proofs.entry.Tie as tie
-use Rattle.shed.proofs.entry.Reads as reads
-use Rattle.shed.proofs.entry.Lts as lts
-use Rattle.flow.proofs.Use.new.Reads as new-reads
-use Rattle.sender.proofs.is_overflow.Reads as is-overflow-reads
-use Rattle.store.proofs.add.Reads as add-reads
 
 is-overflow-requires : tie.Need-is-overflow-requires
 is-overflow-requires c κs = search needs

@@ -1,12 +1,7 @@
 use Rattle.shed.proofs.Passing.{flowed-back-is}
-use mathlib.Core.Path.{_≡_, refl, sym, ap, _∙_}
 use borrow.Author.Needs.{needs}
 use Rattle.shed.proofs.flowed_back.Statement.{statement}
 use Rattle.shed.proofs.flowed_back.Tie as tie
-use Rattle.shed.proofs.flowed_back.Reads as reads
-use Rattle.shed.proofs.flowed_back.Lts as lts
-use Rattle.flow.proofs.returned_all.Reads as returned-all-reads
-use Rattle.shed.proofs.lowered.Reads as lowered-reads
 
 returned-all-requires : tie.Need-returned-all-requires
 returned-all-requires c κs = search needs

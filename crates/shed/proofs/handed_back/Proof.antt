@@ -1,15 +1,8 @@
 use Rattle.shed.proofs.Passing.{handed-is}
-use mathlib.Core.Path.{_≡_, refl, sym, ap, _∙_}
+use mathlib.Core.Path.{refl, sym, _∙_}
 use borrow.Author.Needs.{needs}
 use Rattle.shed.proofs.handed_back.Statement.{statement}
 use Rattle.shed.proofs.handed_back.Tie as tie
-use Rattle.shed.proofs.handed_back.Reads as reads
-use Rattle.shed.proofs.handed_back.Lts as lts
-use Rattle.flow.proofs.Use.handed_back.Reads as handed-back-reads
-use Rattle.shed.proofs.entry.Reads as entry-reads
-use Rattle.shed.proofs.flowed_back.Reads as flowed-back-reads
-use Rattle.shed.proofs.put_back.Reads as put-back-reads
-use Rattle.shed.proofs.used_at.Reads as used-at-reads
 
 entry-requires : tie.Need-entry-requires
 entry-requires c κs = c .before .before .before .before .before .before .pre

@@ -1,12 +1,8 @@
 use Rattle.shed.specs.Cutting.{hands-back}
-use mathlib.Core.Path.{_≡_, refl, sym, ap, _∙_}
+use mathlib.Core.Path.{sym}
 use borrow.Author.Needs.{needs}
 use Rattle.shed.proofs.hands_back.Statement.{statement}
 use Rattle.shed.proofs.hands_back.Tie as tie
-use Rattle.shed.proofs.hands_back.Reads as reads
-use Rattle.shed.proofs.hands_back.Lts as lts
-use Rattle.head.proofs.index_of.Reads as index-of-reads
-use Rattle.head.proofs.is_unbounded.Reads as is-unbounded-reads
 
 is-unbounded-requires : tie.Need-is-unbounded-requires
 is-unbounded-requires c κs = search needs

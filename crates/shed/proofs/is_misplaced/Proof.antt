@@ -1,12 +1,9 @@
 use Rattle.shed.specs.Entering.{is-misplaced}
-use borrow.Author.Tests.{eq-eqb, ne-eqb, lt-ltb, le-ltb, eqb-true, le-leb, lt-leb}
-use mathlib.Core.Path.{_≡_, refl, sym, ap, _∙_}
+use borrow.Author.Tests.{lt-ltb, le-ltb}
+use mathlib.Core.Path.{sym}
 use borrow.Author.Needs.{needs}
 use Rattle.shed.proofs.is_misplaced.Statement.{statement}
 use Rattle.shed.proofs.is_misplaced.Tie as tie
-use Rattle.shed.proofs.is_misplaced.Reads as reads
-use Rattle.shed.proofs.is_misplaced.Lts as lts
-use Rattle.store.proofs.is_at.Reads as is-at-reads
 
 is-at-requires : tie.Need-is-at-requires
 is-at-requires c κs = search needs

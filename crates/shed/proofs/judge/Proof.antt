@@ -4,19 +4,11 @@ use Rattle.head.specs.Answers.{judge-number}
 use Rattle.shed.specs.Judging.{judge}
 use Rattle.shed.proofs.Nine.{never-nine}
 use mathlib.Core.Bool.{true≢false}
-use borrow.Author.Tests.{eq-eqb, ne-eqb, lt-ltb, le-ltb, eqb-true, le-leb, lt-leb}
-use mathlib.Core.Path.{_≡_, refl, sym, ap, _∙_}
+use borrow.Author.Tests.{eq-eqb, ne-eqb}
+use mathlib.Core.Path.{sym, _∙_}
 use borrow.Author.Needs.{needs}
 use Rattle.shed.proofs.judge.Statement.{statement}
 use Rattle.shed.proofs.judge.Tie as tie
-use Rattle.shed.proofs.judge.Reads as reads
-use Rattle.shed.proofs.judge.Lts as lts
-use Rattle.head.proofs.is_unbounded.Reads as is-unbounded-reads
-use Rattle.head.proofs.judge_asked.Reads as judge-asked-reads
-use Rattle.sender.proofs.name_of.Reads as name-of-reads
-use Rattle.shed.proofs.bounded.Reads as bounded-reads
-use Rattle.shed.proofs.is_misplaced.Reads as is-misplaced-reads
-use Rattle.store.proofs.find.Reads as find-reads
 
 judge-asked-requires : tie.Need-judge-asked-requires
 judge-asked-requires c κs = search needs

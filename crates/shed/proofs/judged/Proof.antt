@@ -1,17 +1,8 @@
 use Rattle.shed.proofs.Passing.{judged-is}
-use native.Mathlib.Omega.{arith}
-use mathlib.Core.Path.{_≡_, refl, sym, ap, _∙_}
+use mathlib.Core.Path.{refl, sym, _∙_}
 use borrow.Author.Needs.{needs}
 use Rattle.shed.proofs.judged.Statement.{statement}
 use Rattle.shed.proofs.judged.Tie as tie
-use Rattle.shed.proofs.judged.Reads as reads
-use Rattle.shed.proofs.judged.Lts as lts
-use Rattle.shed.proofs.entry.Reads as entry-reads
-use Rattle.shed.proofs.flowed.Reads as flowed-reads
-use Rattle.shed.proofs.outcome.Reads as outcome-reads
-use Rattle.shed.proofs.put_back.Reads as put-back-reads
-use Rattle.shed.proofs.rank_at.Reads as rank-at-reads
-use Rattle.shed.proofs.used_at.Reads as used-at-reads
 
 entry-requires : tie.Need-entry-requires
 entry-requires c κs = (c .before .before .before .before .before .before .before .pre .0, (c .before .before .before .before .before .before .before .pre .1 .0, (c .before .before .before .before .before .before .before .pre .1 .1 .0, (c .before .before .before .before .before .before .before .pre .1 .1 .1 .0, (c .before .before .before .before .before .before .before .pre .1 .1 .1 .1 .1 .0, c .before .before .before .before .before .before .before .pre .1 .1 .1 .1 .1 .1)))))

@@ -1,8 +1,6 @@
 use borrow.Author.Needs.{needs}
 use Rattle.shed.proofs.later.Statement.{statement}
 use Rattle.shed.proofs.later.Tie as tie
-use Rattle.shed.proofs.later.Reads as reads
-use Rattle.shed.proofs.later.Lts as lts
 
 returns : tie.Need-returns
 returns c = search needs

@@ -1,20 +1,16 @@
 use Rattle.head.specs.Numbers.{dims}
 use Rattle.flow.specs.Flow.{zeros}
 use Rattle.shed.specs.Cutting.{lowered}
-use lib.Ieee.{binary64, add, sub, mul, div}
+use lib.Ieee.{binary64, sub}
 use Rattle.ieee.specs.Extremes.{most}
-use lib.ListN.{getD, replicate}
-use Rattle.flow.proofs.Parts.{upto-none, upto-next, all-none, all-next}
-use Rattle.flow.specs.Flow.{at, upto, all, nothing, one}
+use Rattle.flow.proofs.Parts.{upto-none, upto-next}
+use Rattle.flow.specs.Flow.{at, upto, nothing}
 use native.Mathlib.Omega.{arith}
-use Prim.Native.Nat.{ℕ, _≤_, _<_, _-_, _+_}
-use mathlib.Core.Path.{_≡_, refl, sym, ap, _∙_}
+use Prim.Native.Nat.{ℕ, _≤_, _-_}
+use mathlib.Core.Path.{_≡_}
 use borrow.Author.Needs.{needs}
 use Rattle.shed.proofs.lowered.Statement.{statement}
 use Rattle.shed.proofs.lowered.Tie as tie
-use Rattle.shed.proofs.lowered.Reads as reads
-use Rattle.shed.proofs.lowered.Lts as lts
-use Rattle.ieee.proofs.max.Reads as max-reads
 
 abbrev Inv-loop : tie.InvT-loop
 Inv-loop xs cost out₀ d₀ out d = (d ≤ dims) × (out ≡ upto (λ (i : ℕ). most (sub binary64 (at xs i) (at cost i)) nothing) d zeros)

@@ -1,13 +1,9 @@
 use Rattle.head.specs.Answers.{cut-number}
 use Rattle.shed.proofs.Bounding.{noted-is}
-use mathlib.Core.Path.{_≡_, refl, sym, ap, _∙_}
+use mathlib.Core.Path.{refl}
 use borrow.Author.Needs.{needs}
 use Rattle.shed.proofs.noted.Statement.{statement}
 use Rattle.shed.proofs.noted.Tie as tie
-use Rattle.shed.proofs.noted.Reads as reads
-use Rattle.shed.proofs.noted.Lts as lts
-use Rattle.head.proofs.index_of.Reads as index-of-reads
-use Rattle.shed.proofs.tally.tallied.Reads as tallied-reads
 
 index-of-requires : tie.Need-index-of-requires
 index-of-requires c κs = search needs

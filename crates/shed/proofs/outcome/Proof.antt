@@ -1,14 +1,7 @@
 use Rattle.shed.proofs.Passing.{outcome-is}
-use mathlib.Core.Path.{_≡_, refl, sym, ap, _∙_}
 use borrow.Author.Needs.{needs}
 use Rattle.shed.proofs.outcome.Statement.{statement}
 use Rattle.shed.proofs.outcome.Tie as tie
-use Rattle.shed.proofs.outcome.Reads as reads
-use Rattle.shed.proofs.outcome.Lts as lts
-use Rattle.flow.proofs.fills.Reads as fills-reads
-use Rattle.flow.proofs.judged.Reads as judged-reads
-use Rattle.flow.proofs.numbers.Reads as numbers-reads
-use Rattle.head.proofs.since.Reads as since-reads
 
 numbers-requires : tie.Need-numbers-requires
 numbers-requires c κs = search needs

@@ -1,12 +1,8 @@
 use Rattle.shed.specs.Entering.{put-back}
-use borrow.Author.Tests.{eq-eqb, ne-eqb, lt-ltb, le-ltb, eqb-true, le-leb, lt-leb}
-use mathlib.Core.Path.{_≡_, refl, sym, ap, _∙_}
+use borrow.Author.Tests.{lt-ltb, le-ltb}
 use borrow.Author.Needs.{needs}
 use Rattle.shed.proofs.put_back.Statement.{statement}
 use Rattle.shed.proofs.put_back.Tie as tie
-use Rattle.shed.proofs.put_back.Reads as reads
-use Rattle.shed.proofs.put_back.Lts as lts
-use Rattle.store.proofs.put_use.Reads as put-use-reads
 
 put-use-requires : tie.Need-put-use-requires
 put-use-requires c κs = search needs

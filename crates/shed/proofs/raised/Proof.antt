@@ -1,17 +1,14 @@
 use Rattle.flow.specs.Flow.{zeros}
 use Rattle.shed.specs.Judging.{raised}
 use lib.Ieee.{binary64, add}
-use lib.ListN.{getD, replicate}
-use Rattle.flow.proofs.Parts.{upto-none, upto-next, all-none, all-next}
-use Rattle.flow.specs.Flow.{dims, at, upto, all, nothing}
+use Rattle.flow.proofs.Parts.{upto-none, upto-next}
+use Rattle.flow.specs.Flow.{dims, at, upto}
 use native.Mathlib.Omega.{arith}
-use Prim.Native.Nat.{ℕ, _≤_, _<_, _-_, _+_}
-use mathlib.Core.Path.{_≡_, refl, sym, ap, _∙_}
+use Prim.Native.Nat.{ℕ, _≤_, _-_}
+use mathlib.Core.Path.{_≡_}
 use borrow.Author.Needs.{needs}
 use Rattle.shed.proofs.raised.Statement.{statement}
 use Rattle.shed.proofs.raised.Tie as tie
-use Rattle.shed.proofs.raised.Reads as reads
-use Rattle.shed.proofs.raised.Lts as lts
 
 abbrev Inv-loop : tie.InvT-loop
 Inv-loop xs cost out₀ d₀ out d = (d ≤ dims) × (out ≡ upto (λ (i : ℕ). add binary64 (at xs i) (at cost i)) d zeros)

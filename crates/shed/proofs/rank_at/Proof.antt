@@ -1,13 +1,8 @@
 use Rattle.shed.specs.Judging.{rank-at}
-use borrow.Author.Tests.{eq-eqb, ne-eqb, lt-ltb, le-ltb, eqb-true, le-leb, lt-leb}
-use mathlib.Core.Path.{_≡_, refl, sym, ap, _∙_}
+use borrow.Author.Tests.{lt-ltb, le-ltb}
 use borrow.Author.Needs.{needs}
 use Rattle.shed.proofs.rank_at.Statement.{statement}
 use Rattle.shed.proofs.rank_at.Tie as tie
-use Rattle.shed.proofs.rank_at.Reads as reads
-use Rattle.shed.proofs.rank_at.Lts as lts
-use Rattle.sender.proofs.rank.Reads as rank-reads
-use Rattle.sender.proofs.rank_of_hash.Reads as rank-of-hash-reads
 
 rank-of-hash-requires : tie.Need-rank-of-hash-requires
 rank-of-hash-requires c κs = search needs

@@ -1,12 +1,8 @@
 use Rattle.shed.specs.Entering.{used-at}
-use borrow.Author.Tests.{eq-eqb, ne-eqb, lt-ltb, le-ltb, eqb-true, le-leb, lt-leb}
-use mathlib.Core.Path.{_≡_, refl, sym, ap, _∙_}
+use borrow.Author.Tests.{lt-ltb, le-ltb}
 use borrow.Author.Needs.{needs}
 use Rattle.shed.proofs.used_at.Statement.{statement}
 use Rattle.shed.proofs.used_at.Tie as tie
-use Rattle.shed.proofs.used_at.Reads as reads
-use Rattle.shed.proofs.used_at.Lts as lts
-use Rattle.store.proofs.use_at.Reads as use-at-reads
 
 use-at-requires : tie.Need-use-at-requires
 use-at-requires c κs = search needs

@@ -2,8 +2,7 @@
 use Prim.Native.Nat.{_≤_, _-_}
 use borrow.Author.Needs.{needs}
 use lib.ListN.{length}
-use mathlib.Core.Path.{_≡_, sym, _∙_}
-use native.Mathlib.Omega.{arith}
+use mathlib.Core.Path.{sym, _∙_}
 use Rattle.store.specs.Store.{None, in-table}
 use Rattle.store.proofs.Steps.{none-here, none-join, near-none}
 use Rattle.store.proofs.skip_to_table.Statement.{statement}

@@ -1,10 +1,10 @@
 -- `answer` meets its contract: by the kind of the line.
-use mathlib.Core.Path.{_≡_, refl, sym, ap, _∙_}
+use mathlib.Core.Path.{sym, ap, _∙_}
 use denote.Ref.{now}
 use native.Mathlib.Omega.{arith}
 use Rattle.store.specs.Store.{rows}
-use Rattle.wants.specs.Wants.{Hist, hist}
-use Rattle.shed.specs.Judging.{Memory, memory}
+use Rattle.wants.specs.Wants.{hist}
+use Rattle.shed.specs.Judging.{memory}
 use Rattle.trial.specs.Trial.{state, call}
 use Rattle.trial.proofs.Steps.{answer-long, answer-line}
 use borrow.Author.Needs.{needs}

@@ -1,5 +1,5 @@
 -- `has_begun` meets its contract.
-use mathlib.Core.Path.{_≡_, refl, sym, ap, _∙_}
+use mathlib.Core.Path.{sym, ap}
 use Rattle.trial.specs.Trial.{has-begun}
 use borrow.Author.Needs.{needs}
 use Rattle.trial.proofs.has_begun.Statement.{statement}

@@ -1,5 +1,4 @@
 -- `refused` meets its contract.
-use mathlib.Core.Path.{_≡_, refl, sym, ap, _∙_}
 use denote.Ref.{now}
 use Rattle.trial.specs.Trial.{state}
 use Rattle.trial.proofs.Steps.{refused-step}

@@ -1,9 +1,8 @@
 -- `start` meets its contract.
-use mathlib.Core.Path.{_≡_, refl, sym, ap, _∙_}
 use denote.Ref.{now}
 use Rattle.store.specs.Store.{rows}
-use Rattle.wants.specs.Wants.{Hist, hist}
-use Rattle.shed.specs.Judging.{Memory, memory}
+use Rattle.wants.specs.Wants.{hist}
+use Rattle.shed.specs.Judging.{memory}
 use Rattle.trial.specs.Trial.{state}
 use Rattle.trial.proofs.Steps.{start-step}
 use borrow.Author.Needs.{needs}

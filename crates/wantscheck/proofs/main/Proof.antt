@@ -1,5 +1,4 @@
 -- `wantscheck::main` is safe and ends. Assumes nothing.
-use Prim.Native.Nat.{_≤_}
 use mathlib.Core.Path.{_≡_}
 use borrow.Author.Needs.{needs}
 use lib.ListN.{length}

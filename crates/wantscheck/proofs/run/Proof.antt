@@ -1,6 +1,5 @@
 -- `wantscheck::run` is safe and ends. Assumes nothing.
 use Prim.Native.Nat.{_≤_, _-_}
-use native.Mathlib.Omega.{arith}
 use borrow.Author.Needs.{needs}
 use lib.ListN.{length}
 use Rattle.wantscheck.proofs.run.Statement.{statement}

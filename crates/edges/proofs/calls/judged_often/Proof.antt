@@ -1,5 +1,4 @@
 -- `calls::judged_often` is safe and ends. Assumes nothing.
-use native.Mathlib.Omega.{arith}
 use borrow.Author.Needs.{needs}
 use Rattle.edges.proofs.calls.judged_often.Statement.{statement}
 use Rattle.edges.proofs.calls.judged_often.Tie as tie

@@ -1,6 +1,5 @@
 -- `lines::run` is safe and ends. Assumes nothing.
 use Prim.Native.Nat.{_≤_, _-_}
-use native.Mathlib.Omega.{arith}
 use borrow.Author.Needs.{needs}
 use Rattle.edges.proofs.lines.run.Statement.{statement}
 use Rattle.edges.proofs.lines.run.Tie as tie

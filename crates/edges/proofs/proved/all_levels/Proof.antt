@@ -1,6 +1,5 @@
 -- `proved::all_levels` is safe and ends. Assumes nothing.
 use Prim.Native.Nat.{_≤_, _-_}
-use native.Mathlib.Omega.{arith}
 use borrow.Author.Needs.{needs}
 use Rattle.flow.specs.Flow.{dims}
 use Rattle.edges.proofs.proved.all_levels.Statement.{statement}

@@ -1,6 +1,5 @@
 -- `refusals::all` is safe and ends. Assumes nothing.
 use Prim.Native.Nat.{_≤_, _-_}
-use native.Mathlib.Omega.{arith}
 use borrow.Author.Needs.{needs}
 use Rattle.edges.proofs.refusals.all.Statement.{statement}
 use Rattle.edges.proofs.refusals.all.Tie as tie

@@ -1,6 +1,5 @@
 -- `same::buckets` is safe and ends. Assumes nothing.
 use Prim.Native.Nat.{_≤_, _-_}
-use native.Mathlib.Omega.{arith}
 use borrow.Author.Needs.{needs}
 use Rattle.flow.specs.Flow.{dims}
 use Rattle.edges.proofs.same.buckets.Statement.{statement}

@@ -1,6 +1,5 @@
 -- `same::records` is safe and ends. Assumes nothing.
 use Prim.Native.Nat.{_≤_, _-_}
-use native.Mathlib.Omega.{arith}
 use borrow.Author.Needs.{needs}
 use Rattle.edges.proofs.same.records.Statement.{statement}
 use Rattle.edges.proofs.same.records.Tie as tie

@@ -1,6 +1,5 @@
 -- `same::sources` is safe and ends. Assumes nothing.
 use Prim.Native.Nat.{_≤_, _-_}
-use native.Mathlib.Omega.{arith}
 use borrow.Author.Needs.{needs}
 use Rattle.edges.proofs.same.sources.Statement.{statement}
 use Rattle.edges.proofs.same.sources.Tie as tie

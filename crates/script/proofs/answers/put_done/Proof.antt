@@ -1,5 +1,5 @@
 -- `answers::put_done` meets its contract: by the case of the answer.
-use mathlib.Core.Path.{_≡_, refl, sym, ap, _∙_}
+use mathlib.Core.Path.{sym, ap, _∙_}
 use Rattle.script.specs.Answers.{done-text}
 use denote.Ref.{now}
 use Rattle.text.specs.Page.{page, write}

@@ -1,5 +1,5 @@
 -- `answers::put_refused` meets its contract: the text is put from a buffer of its own.
-use mathlib.Core.Path.{_≡_, refl, sym, ap, _∙_}
+use mathlib.Core.Path.{ap, _∙_}
 use denote.Ref.{now}
 use Rattle.text.specs.Page.{page, write}
 use borrow.Author.Needs.{needs}

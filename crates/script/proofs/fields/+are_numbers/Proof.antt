@@ -1,5 +1,5 @@
 -- `fields::are_numbers` meets its contract. The measure is how many numbers are still to come.
-use mathlib.Core.Path.{_≡_, refl, sym, ap, _∙_}
+use mathlib.Core.Path.{sym, ap, _∙_}
 use native.Mathlib.Nat.{pos-of-ne-zero}
 use native.Mathlib.Omega.{arith}
 use denote.Ref.{now}

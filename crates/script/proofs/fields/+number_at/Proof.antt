@@ -1,5 +1,5 @@
 -- `fields::number_at` meets its contract. The measure is the index.
-use mathlib.Core.Path.{_≡_, refl, sym, ap, _∙_}
+use mathlib.Core.Path.{ap, _∙_}
 use native.Mathlib.Nat.{pos-of-ne-zero}
 use native.Mathlib.Omega.{arith}
 use denote.Ref.{now}

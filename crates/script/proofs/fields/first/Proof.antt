@@ -1,5 +1,5 @@
 -- `fields::first` meets its contract.
-use mathlib.Core.Path.{_≡_, refl, sym, ap, _∙_}
+use mathlib.Core.Path.{ap}
 use Prim.Native.Nat.{ℕ}
 use lib.ListN.{take}
 use denote.Ref.{now}

@@ -1,5 +1,5 @@
 -- `fields::is_number` meets its contract.
-use mathlib.Core.Path.{_≡_, refl, sym, ap, _∙_}
+use mathlib.Core.Path.{_∙_}
 use Rattle.script.specs.Fields.{is-number}
 use borrow.Author.Needs.{needs}
 use Rattle.script.proofs.fields.is_number.Statement.{statement}

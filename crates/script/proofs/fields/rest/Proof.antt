@@ -1,5 +1,5 @@
 -- `fields::rest` meets its contract.
-use mathlib.Core.Path.{_≡_, refl, sym, ap, _∙_}
+use mathlib.Core.Path.{_∙_}
 use native.Mathlib.Omega.{arith}
 use denote.Ref.{now}
 use Rattle.script.proofs.Walking.{tail, rest-more, rest-none}

@@ -1,11 +1,7 @@
 use Rattle.shed.specs.Counting.{added}
-use mathlib.Core.Path.{_≡_, refl, sym, ap, _∙_}
 use borrow.Author.Needs.{needs}
 use Rattle.shed.proofs.tally.added.Statement.{statement}
 use Rattle.shed.proofs.tally.added.Tie as tie
-use Rattle.shed.proofs.tally.added.Reads as reads
-use Rattle.shed.proofs.tally.added.Lts as lts
-use Rattle.shed.proofs.tally.upped.Reads as upped-reads
 
 upped-requires : tie.Need-upped-requires
 upped-requires c κs = search needs

@@ -2,8 +2,6 @@ use Rattle.shed.specs.Counting.{cause-of}
 use borrow.Author.Needs.{needs}
 use Rattle.shed.proofs.tally.cause_of.Statement.{statement}
 use Rattle.shed.proofs.tally.cause_of.Tie as tie
-use Rattle.shed.proofs.tally.cause_of.Reads as reads
-use Rattle.shed.proofs.tally.cause_of.Lts as lts
 
 enum-told : tie.Need-enum-told
 enum-told c = search needs

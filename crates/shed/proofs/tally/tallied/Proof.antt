@@ -1,15 +1,10 @@
 use Rattle.counted.specs.Counted.{pruned}
 use Rattle.shed.specs.Counting.{tallied, tallied-with, added}
 use Rattle.head.specs.declared.Shedder.{Shedder}
-use mathlib.Core.Path.{_≡_, refl, sym, ap, _∙_}
+use mathlib.Core.Path.{ap, _∙_}
 use borrow.Author.Needs.{needs}
 use Rattle.shed.proofs.tally.tallied.Statement.{statement}
 use Rattle.shed.proofs.tally.tallied.Tie as tie
-use Rattle.shed.proofs.tally.tallied.Reads as reads
-use Rattle.shed.proofs.tally.tallied.Lts as lts
-use Rattle.shed.proofs.tally.added.Reads as added-reads
-use Rattle.counted.proofs.count.Reads as count-reads
-use Rattle.counted.proofs.pruned.Reads as pruned-reads
 
 count-requires : tie.Need-count-requires
 count-requires c κs = search needs

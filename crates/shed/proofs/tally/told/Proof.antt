@@ -1,13 +1,8 @@
 use Rattle.shed.specs.Counting.{told}
-use mathlib.Core.Path.{_≡_, refl, sym, ap, _∙_}
+use mathlib.Core.Path.{refl, sym}
 use borrow.Author.Needs.{needs}
 use Rattle.shed.proofs.tally.told.Statement.{statement}
 use Rattle.shed.proofs.tally.told.Tie as tie
-use Rattle.shed.proofs.tally.told.Reads as reads
-use Rattle.shed.proofs.tally.told.Lts as lts
-use Rattle.shed.proofs.tally.cause_of.Reads as cause-of-reads
-use Rattle.shed.proofs.tally.is_admitted.Reads as is-admitted-reads
-use Rattle.shed.proofs.tally.tallied.Reads as tallied-reads
 
 is-admitted-requires : tie.Need-is-admitted-requires
 is-admitted-requires c κs = search needs

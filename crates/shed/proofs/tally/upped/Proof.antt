@@ -1,11 +1,7 @@
 use Rattle.shed.specs.Counting.{upped}
-use mathlib.Core.Path.{_≡_, refl, sym, ap, _∙_}
 use borrow.Author.Needs.{needs}
 use Rattle.shed.proofs.tally.upped.Statement.{statement}
 use Rattle.shed.proofs.tally.upped.Tie as tie
-use Rattle.shed.proofs.tally.upped.Reads as reads
-use Rattle.shed.proofs.tally.upped.Lts as lts
-use Rattle.std.proofs.num.wrapping_add_u64.Reads as wrapping-add-u64-reads
 
 mul-wrapping-add-u64 : tie.Need-mul-wrapping-add-u64
 mul-wrapping-add-u64 c = search needs
