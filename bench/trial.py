@@ -2,12 +2,13 @@
 """Times the trial program and the oracle on one large list, in turn, and compares what they print.
 
 usage: trial.py TRIAL ORACLE GENS [MEGABYTES]
-TRIAL is target/bin/shedtrial, ORACLE the oracle's program, GENS the folder of gens.py, which makes lists.
+TRIAL is target/bin/shedtrial, ORACLE the program that oracle/build makes, GENS the folder of gens.py (oracle/), which makes lists.
 """
 import hashlib, os, subprocess, sys, tempfile, time
 
 trial, oracle, gens_folder = sys.argv[1:4]
 size = int(sys.argv[4] if len(sys.argv) > 4 else 100) * 1_000_000
+sys.dont_write_bytecode = True
 sys.path.insert(0, gens_folder)
 import gens
 

@@ -1,0 +1,289 @@
+//! Declarations for a Rust program that links `target/staticlib/libtankpost.a` (made by `rt staticlib tankpost`), and the
+//! calls over memory that the program holds. The structs are those of crates/flow, head, sender and tankpost, field by field.
+
+pub const DIMS: usize = 2;
+pub const CAUSES: usize = 3;
+pub const BUCKETS: usize = 768;
+pub const OVER_SHARE: u64 = 16;
+pub const RELAY_RATE: u64 = 17;
+
+#[repr(C)]
+#[derive(Clone, Copy, Default)]
+pub struct Bucket {
+    pub tokens: f64,
+    pub burst: f64,
+    pub rate_per_ms: f64,
+}
+
+#[repr(C)]
+#[derive(Clone, Copy, Default)]
+pub struct Use {
+    pub attempted: [f64; DIMS],
+    pub credit: [f64; DIMS],
+    pub at_ms: u64,
+    pub fresh: bool,
+}
+
+#[repr(C)]
+#[derive(Clone, Copy, Default)]
+pub struct Flow {
+    pub rate: [u64; DIMS],
+    pub ceiling: [u64; DIMS],
+    pub buckets: [Bucket; DIMS],
+    pub at_ms: u64,
+    pub admitted: [f64; DIMS],
+}
+
+#[repr(C)]
+#[derive(Clone, Copy, Default)]
+pub struct Scan {
+    pub remaining: usize,
+    pub next: usize,
+    pub at_ms: u64,
+    pub began_ms: u64,
+    pub trim: [f64; DIMS],
+    pub open: [f64; DIMS],
+    pub read_ms: u64,
+    pub read_admitted: [f64; DIMS],
+}
+
+/// The head. Before a start it may be all zeros.
+#[repr(C)]
+#[derive(Clone, Copy, Default)]
+pub struct Head {
+    pub flow: Flow,
+    pub overflow: Use,
+    pub scan: Scan,
+    pub visits: u64,
+    pub level: [f64; DIMS],
+    pub batches: [u64; CAUSES],
+    pub receptions: [u64; CAUSES],
+    pub tracked: usize,
+    pub counted: usize,
+    pub unit_room: usize,
+    pub counted_room: usize,
+}
+
+/// A unit: kind 0 a key (big-endian words), 1 a V4 group and 2 a V6 group (prefix in `a`), 3 no address, 4 overflow.
+#[repr(C)]
+#[derive(Clone, Copy, Debug, Default, PartialEq, Eq)]
+pub struct Words {
+    pub kind: u64,
+    pub a: u64,
+    pub b: u64,
+    pub c: u64,
+    pub d: u64,
+}
+
+#[repr(C)]
+#[derive(Clone, Copy)]
+pub struct Answered {
+    pub answer: u64,
+    pub head: Head,
+}
+
+#[repr(C)]
+#[derive(Clone, Copy, Debug, PartialEq, Eq)]
+pub struct Count {
+    pub refusal: u64,
+    pub value: u64,
+}
+
+#[repr(C)]
+#[derive(Clone, Copy, Debug)]
+pub struct Level {
+    pub refusal: u64,
+    pub value: f64,
+}
+
+pub type UnitRow = [u64; 7];
+pub type UseRow = [f64; 2 * DIMS];
+pub type CountedRow = [u64; 8];
+pub type Counts = [[u32; BUCKETS]; DIMS];
+pub type Sums = [[f64; BUCKETS]; DIMS];
+
+extern "C" {
+    fn tankpost_start(
+        head: Head,
+        hashes: *const u64, hashes_len: usize,
+        units: *const UnitRow, units_len: usize,
+        uses: *const UseRow, uses_len: usize,
+        counts: *mut Counts,
+        sums: *mut Sums,
+        counted: *const CountedRow, counted_len: usize,
+        rate: *const [u64; DIMS],
+        ceiling: *const [u64; DIMS],
+    ) -> Answered;
+    fn tankpost_judge(
+        head: Head,
+        hashes: *mut u64, hashes_len: usize,
+        units: *mut UnitRow, units_len: usize,
+        uses: *mut UseRow, uses_len: usize,
+        counts: *mut Counts,
+        sums: *mut Sums,
+        counted: *mut CountedRow, counted_len: usize,
+        unit: Words,
+        cost: *const [u64; DIMS],
+        stamp: u64,
+    ) -> Answered;
+    fn tankpost_cut(
+        head: Head,
+        hashes: *mut u64, hashes_len: usize,
+        units: *mut UnitRow, units_len: usize,
+        uses: *mut UseRow, uses_len: usize,
+        counted: *mut CountedRow, counted_len: usize,
+        unit: Words,
+        cause: u64,
+        cost: *const [u64; DIMS],
+    ) -> Answered;
+    fn tankpost_report(
+        head: Head,
+        hashes: *const u64, hashes_len: usize,
+        units: *const UnitRow, units_len: usize,
+        uses: *const UseRow, uses_len: usize,
+        counted: *const CountedRow, counted_len: usize,
+        out: *mut u8, out_len: usize,
+    ) -> Count;
+    fn tankpost_report_refusal(
+        head: Head,
+        hashes: *const u64, hashes_len: usize,
+        units: *const UnitRow, units_len: usize,
+        uses: *const UseRow, uses_len: usize,
+        counted: *const CountedRow, counted_len: usize,
+        out: *const u8, out_len: usize,
+    ) -> u64;
+    fn tankpost_visited(head: Head) -> Count;
+    fn tankpost_cut_batches(head: Head, cause: u64) -> Count;
+    fn tankpost_level(head: Head, dim: u64) -> Level;
+    fn tankpost_rate(head: Head, dim: u64) -> Count;
+    fn tankpost_is_bounded(head: Head) -> Count;
+}
+
+/// A shedder and the memory that it is lent.
+#[derive(Clone)]
+pub struct Shedder {
+    pub head: Head,
+    pub hashes: Vec<u64>,
+    pub units: Vec<UnitRow>,
+    pub uses: Vec<UseRow>,
+    pub counts: Box<Counts>,
+    pub sums: Box<Sums>,
+    pub counted: Vec<CountedRow>,
+}
+
+impl Shedder {
+    /// Memory of zeros for so many records, and a head of zeros, which no call but `start` takes.
+    pub fn new(units: usize, counted: usize) -> Self {
+        Self {
+            head: Head::default(),
+            hashes: vec![0; units],
+            units: vec![[0; 7]; units],
+            uses: vec![[0.0; 2 * DIMS]; units],
+            counts: Box::new([[0; BUCKETS]; DIMS]),
+            sums: Box::new([[0.0; BUCKETS]; DIMS]),
+            counted: vec![[0; 8]; counted],
+        }
+    }
+
+    fn take(&mut self, a: Answered) -> u64 {
+        self.head = a.head;
+        a.answer
+    }
+
+    pub fn start(&mut self, rate: [u64; DIMS], ceiling: [u64; DIMS]) -> u64 {
+        let a = unsafe {
+            tankpost_start(
+                self.head,
+                self.hashes.as_ptr(), self.hashes.len(),
+                self.units.as_ptr(), self.units.len(),
+                self.uses.as_ptr(), self.uses.len(),
+                &mut *self.counts,
+                &mut *self.sums,
+                self.counted.as_ptr(), self.counted.len(),
+                &rate,
+                &ceiling,
+            )
+        };
+        self.take(a)
+    }
+
+    pub fn judge(&mut self, unit: Words, cost: [u64; DIMS], stamp: u64) -> u64 {
+        let a = unsafe {
+            tankpost_judge(
+                self.head,
+                self.hashes.as_mut_ptr(), self.hashes.len(),
+                self.units.as_mut_ptr(), self.units.len(),
+                self.uses.as_mut_ptr(), self.uses.len(),
+                &mut *self.counts,
+                &mut *self.sums,
+                self.counted.as_mut_ptr(), self.counted.len(),
+                unit,
+                &cost,
+                stamp,
+            )
+        };
+        self.take(a)
+    }
+
+    pub fn cut(&mut self, unit: Words, cause: u64, cost: [u64; DIMS]) -> u64 {
+        let a = unsafe {
+            tankpost_cut(
+                self.head,
+                self.hashes.as_mut_ptr(), self.hashes.len(),
+                self.units.as_mut_ptr(), self.units.len(),
+                self.uses.as_mut_ptr(), self.uses.len(),
+                self.counted.as_mut_ptr(), self.counted.len(),
+                unit,
+                cause,
+                &cost,
+            )
+        };
+        self.take(a)
+    }
+
+    pub fn report(&self, out: &mut [u8]) -> Count {
+        unsafe {
+            tankpost_report(
+                self.head,
+                self.hashes.as_ptr(), self.hashes.len(),
+                self.units.as_ptr(), self.units.len(),
+                self.uses.as_ptr(), self.uses.len(),
+                self.counted.as_ptr(), self.counted.len(),
+                out.as_mut_ptr(), out.len(),
+            )
+        }
+    }
+
+    pub fn report_refusal(&self, out: &[u8]) -> u64 {
+        unsafe {
+            tankpost_report_refusal(
+                self.head,
+                self.hashes.as_ptr(), self.hashes.len(),
+                self.units.as_ptr(), self.units.len(),
+                self.uses.as_ptr(), self.uses.len(),
+                self.counted.as_ptr(), self.counted.len(),
+                out.as_ptr(), out.len(),
+            )
+        }
+    }
+
+    pub fn visited(&self) -> Count {
+        unsafe { tankpost_visited(self.head) }
+    }
+
+    pub fn cut_batches(&self, cause: u64) -> Count {
+        unsafe { tankpost_cut_batches(self.head, cause) }
+    }
+
+    pub fn level(&self, dim: u64) -> Level {
+        unsafe { tankpost_level(self.head, dim) }
+    }
+
+    pub fn rate(&self, dim: u64) -> Count {
+        unsafe { tankpost_rate(self.head, dim) }
+    }
+
+    pub fn is_bounded(&self) -> Count {
+        unsafe { tankpost_is_bounded(self.head) }
+    }
+}
