@@ -16,7 +16,7 @@ import sys
 EDITS = [
     ('map', 'arrival-ordered map', 'use std::collections::HashMap;', 'use crate::standin::OrderedMap as HashMap;', 1),
     ('alone', 'no gauge', 'use std::sync::{Arc, Mutex};', 'use std::sync::Mutex;', 1),
-    ('alone', 'PublicKey stand-in', 'use tally_wire::PublicKey;', 'use crate::standin::PublicKey;', 1),
+    ('alone', 'PublicKey stand-in', 'use tally_wire::PublicKey;', 'use crate::key::PublicKey;', 1),
     ('alone', 'no gauge', 'use crate::budget::{Charge, Gauge};\n', '', 1),
     ('alone', 'no footprint', 'use crate::footprint::{self, Table};\n', '', 1),
     ('alone', 'Group of directory.rs', 'use crate::ingest::Group;', 'use crate::group::Group;', 1),
@@ -35,7 +35,7 @@ EDITS = [
     ('sizes', 'UNITS_TRACKED', '< UNITS_TRACKED)', '< UNITS_TRACKED.load(Ordering::Relaxed))', 1),
     ('sizes', 'SOURCES_COUNTED', 'pub const SOURCES_COUNTED: usize = 4_096;', 'use crate::standin::SOURCES_COUNTED;', 1),
     ('sizes', 'SOURCES_COUNTED', '> SOURCES_COUNTED {', '> SOURCES_COUNTED.load(Ordering::Relaxed) {', 1),
-    ('numbers', 'stand-ins', 'use crate::standin::PublicKey;', 'use crate::standin::{Doc01, PublicKey};', 1),
+    ('numbers', 'stand-ins', 'use crate::key::PublicKey;', 'use crate::key::PublicKey;\nuse crate::standin::Doc01;', 1),
     ('numbers', 'fade', '(-(now.saturating_sub(self.at_ms) as f64) / WINDOW_MS as f64).exp()', 'crate::standin::fade(now.saturating_sub(self.at_ms))', 2),
     ('numbers', 'bucket', 'let bucket = if want ... };', 'let bucket = crate::standin::bucket_of(want);', 1),
     ('numbers', 'max', 'BURST_SECS).max(burst_floor[dim]).max(1.0)', 'BURST_SECS).max01(burst_floor[dim]).max01(1.0)', 1),

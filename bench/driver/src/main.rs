@@ -1,14 +1,14 @@
 //! Times `judge` and the report of the original Rust and of this, in one process, on the same sequence, and prints a table.
 #![allow(dead_code, unused_parens)]
 mod group;
+mod key;
 mod report;
 mod shed;
-mod standin;
 mod tankpost;
 use group::Group;
+use key::PublicKey;
 use report::text_of;
 use shed::{Cause, Cost, Rates, Unit};
-use standin::PublicKey;
 use std::hint::black_box;
 use tankpost::Words;
 

@@ -1,7 +1,7 @@
 //! The trial's lines, read as document 01 has them.
 use crate::group::Group;
 use crate::shed::{Cause, Unit};
-use crate::standin::PublicKey;
+use crate::key::PublicKey;
 
 pub enum Line {
     Start([u64; 4]),

@@ -2,6 +2,7 @@
 //! --units N, --kept N: the capacities (256 and 64). --hash: each line is a label; prints its table and its hash >> 11.
 #![allow(dead_code, unused_parens)]
 mod group;
+mod key;
 mod lines;
 mod report;
 mod shed;

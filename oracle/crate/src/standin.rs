@@ -6,21 +6,6 @@ use std::sync::atomic::AtomicUsize;
 pub static UNITS_TRACKED: AtomicUsize = AtomicUsize::new(256);
 pub static SOURCES_COUNTED: AtomicUsize = AtomicUsize::new(64);
 
-#[derive(Clone, Copy, Debug, PartialEq, Eq, Hash)]
-pub struct PublicKey(pub [u8; 32]);
-
-impl PublicKey {
-    pub fn as_bytes(&self) -> &[u8; 32] {
-        &self.0
-    }
-}
-
-impl std::fmt::Display for PublicKey {
-    fn fmt(&self, f: &mut std::fmt::Formatter<'_>) -> std::fmt::Result {
-        self.0.iter().try_for_each(|byte| write!(f, "{byte:02x}"))
-    }
-}
-
 pub fn fade(d: u64) -> f64 {
     match B.get((d / 2000) as usize) {
         Some(b) => f64::from_bits(A[(d % 2000) as usize]) * f64::from_bits(*b),

@@ -1,7 +1,7 @@
 //! A list for the largest capacities: more senders than unit records, and more sources cut than counted records.
 use crate::group::Group;
 use crate::shed::{Cause, Unit};
-use crate::standin::PublicKey;
+use crate::key::PublicKey;
 use crate::steps::{Random, Step};
 
 pub const UNITS: usize = 131_072;

@@ -4,6 +4,7 @@
 #![allow(dead_code, unused_parens)]
 mod both;
 mod group;
+mod key;
 mod large;
 mod lines;
 mod questions;

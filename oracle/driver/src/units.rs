@@ -1,7 +1,7 @@
 //! A unit of the Rust and its words here, and the hash that a record keeps, from document 01.
 use crate::group::Group;
 use crate::shed::Unit;
-use crate::standin::PublicKey;
+use crate::key::PublicKey;
 use crate::tankpost::Words;
 
 fn number(kind: u64, a: u64) -> Words {

@@ -1,4 +1,4 @@
-//! The one type that the original takes from another crate.
+//! The one type that the original takes from another crate: document 01's `PublicKey`.
 #[derive(Clone, Copy, Debug, PartialEq, Eq, Hash)]
 pub struct PublicKey(pub [u8; 32]);
 
