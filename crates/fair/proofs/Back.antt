@@ -16,7 +16,7 @@ use Rattle.sender.specs.declared.Words.{Words}
 use Rattle.sender.specs.declared.Name.{Name}
 use Rattle.store.specs.Store.{Rows, rows, dims, part, picked, joined, mark, unit-row, words-at, use-at, units-put, uses-put, added}
 use Rattle.fair.proofs.View as view
-use Rattle.fair.proofs.Sweep.{Same}
+use Rattle.store.proofs.Places.{Same}
 use Rattle.fair.proofs.Sweep as pass
 
 -- ---- floats

@@ -9,14 +9,11 @@ use mathlib.Core.List.{List, [], _∷_, _++_}
 use lib.Dec.{ltb}
 use Rattle.flow.specs.Flow.{nothing}
 use lib.ListN.{length, getD, set, length-set, replicate}
-use lib.Seq.{getD-set-same, getD-set-other}
+use lib.Seq.{getD-set-same}
 use borrow.Author.Tests.{ltb-true, ltb-false}
 use Rattle.store.specs.Store.{Rows, rows, Kept, kept, freed, moved, is-stale, table-at, stamp-at, words-at, use-at, retained, retain-one, either}
+use Rattle.store.proofs.Places.{Same, same-self, same-join, freed-other, moved-other}
 use Rattle.fair.proofs.View as view
-
--- place i of one memory holds what place j of another does
-unfoldable pub Same : Rows → ℕ → Rows → ℕ → Type 0
-Same m i m' j = (getD (m .hashes) i 0 ≡ getD (m' .hashes) j 0) × (getD (m .units) i [] ≡ getD (m' .units) j []) × (getD (m .uses) i [] ≡ getD (m' .uses) j [])
 
 unit-same : (m : Rows) (i : ℕ) (m' : Rows) (j : ℕ) → Same m i m' j → getD (m .units) i [] ≡ getD (m' .units) j []
 unfolding Same
@@ -37,19 +34,10 @@ module _ (m : Rows) (i : ℕ) where
   unfolding freed
   freed-long = record { hashes = simp length-set; units = simp length-set; uses = simp length-set }
 
-  freed-other : (j : ℕ) → (j ≡ i → ⊥) → Same (freed m i) j m j
-  unfolding Same freed
-  freed-other j h = (rw getD-set-other, rw getD-set-other, rw getD-set-other)
-
   module _ (k : ℕ) where
     moved-long : Long (moved m i k) m
     unfolding moved
     moved-long = record { hashes = simp length-set; units = simp length-set; uses = simp length-set }
-
-    moved-other : (j : ℕ) → (j ≡ i → ⊥) → (j ≡ k → ⊥) → Same (moved m i k) j m j
-    unfolding Same moved
-    moved-other j h l =
-        (simp getD-set-other, simp getD-set-other, simp getD-set-other)
 
     moved-there : k < length (m .hashes) → k < length (m .units) → k < length (m .uses) → Same (moved m i k) k m i
     unfolding Same moved
@@ -61,14 +49,6 @@ module _ (m : Rows) (i : ℕ) where
 
 go : {x y z : Rows} → Long x y → Long y z → Long x z
 go p q = record { hashes = p .hashes ∙ q .hashes; units = p .units ∙ q .units; uses = p .uses ∙ q .uses }
-
-join : (x y z : Rows) (j : ℕ) → Same x j y j → Same y j z j → Same x j z j
-unfolding Same
-join x y z j p q = (p .0 ∙ q .0, p .1 ∙ q .1, p .2 ∙ q .2)
-
-self : (x : Rows) (j : ℕ) → Same x j x j
-unfolding Same
-self x j = (refl, refl, refl)
 
 module _ (room : ℕ) where
   abbrev R′ : Type 0
@@ -146,7 +126,7 @@ module _ (room : ℕ) where
         wide = λ v f j h. ap (λ (l : List ℕ). length l) (unit-same (freed (k .rows) n) j (k .rows) j (freed-other (k .rows) n j (λ q. absurd (omega (arith, w .few))))) ∙ w .wide v (λ i l. f i (omega arith)) j h;
         few = omega (arith, w .few);
         long = go (freed-long (k .rows) n) (w .long);
-        beyond = λ j h. join (freed (k .rows) n) (k .rows) m j (freed-other (k .rows) n j (λ q. absurd (omega arith))) (w .beyond j (omega arith));
+        beyond = λ j h. same-join (freed (k .rows) n) (k .rows) m j (freed-other (k .rows) n j (λ q. absurd (omega arith))) (w .beyond j (omega arith));
         list = listed-same (freed (k .rows) n) (k .rows) (k .count) (λ j h. record-same (freed (k .rows) n) j (k .rows) j (freed-other (k .rows) n j (λ q. absurd (omega (arith, w .few))))) ∙ sym (more true e);
       }
 
@@ -161,7 +141,7 @@ module _ (room : ℕ) where
         ];
         few = omega (arith, w .few);
         long = go (moved-long (k .rows) n (k .count)) (w .long);
-        beyond = λ j h. join (moved (k .rows) n (k .count)) (k .rows) m j (moved-other (k .rows) n (k .count) j (λ q. absurd (omega arith)) (λ q. absurd (omega arith))) (w .beyond j (omega arith));
+        beyond = λ j h. same-join (moved (k .rows) n (k .count)) (k .rows) m j (moved-other (k .rows) n (k .count) j (λ q. absurd (omega arith)) (λ q. absurd (omega arith))) (w .beyond j (omega arith));
         list = listed-next (moved (k .rows) n (k .count)) (k .count)
             ∙ ap (λ (x : List R′). x ++ (record-at (moved (k .rows) n (k .count)) (k .count) ∷ []))
             (listed-same (moved (k .rows) n (k .count)) (k .rows) (k .count) (λ j h. record-same (moved (k .rows) n (k .count)) j (k .rows) j (moved-other (k .rows) n (k .count) j (λ q. absurd (omega arith)) (λ q. absurd (omega arith)))))
@@ -199,7 +179,7 @@ module _ (room : ℕ) where
 
     pub passed : (n : ℕ) → n ≤ length (m .hashes) → n ≤ length (m .units) → n ≤ length (m .uses) → Passed n (retained m t a n)
     unfolding retained Wide
-    passed zero p q r = record { wide = λ v f j h. absurd (omega arith); few = omega arith; long = record { hashes = refl; units = refl; uses = refl }; beyond = λ j h. self m j; list = start }
+    passed zero p q r = record { wide = λ v f j h. absurd (omega arith); few = omega arith; long = record { hashes = refl; units = refl; uses = refl }; beyond = λ j h. same-self m j; list = start }
     passed (suc n) p q r = rw add-one at (step n (retained m t a n) (passed n (omega arith) (omega arith) (omega arith)) (omega arith) (omega arith) (omega arith))
 
     -- THE SWEEP: the live records after one pass are those that the sweep leaves, in their order

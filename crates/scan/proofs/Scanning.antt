@@ -1,10 +1,12 @@
 -- The scan from its parts. Assumes nothing.
-use mathlib.Core.Path.{_≡_, sym, ap, _∙_}
+use mathlib.Core.Path.{_≡_, sym, ap, subst, _∙_}
 use mathlib.Core.Bool.{Bool, true, false}
 use Prim.Native.Nat.{ℕ, _+_, _-_, _≤_}
 use native.Mathlib.Omega.{arith}
 use lib.Dec.{leb}
-use Rattle.store.specs.Store.{Rows, kept, retained}
+use Rattle.store.specs.Store.{Rows, Kept, kept, None, is-stale, retained}
+use Rattle.store.proofs.Places.{Same, retained-before}
+use Rattle.scan.proofs.Turns.{walk-same}
 use Rattle.wants.specs.Wants.{Hist}
 use Rattle.head.specs.declared.Shedder.{Shedder}
 use Rattle.scan.specs.Scanning.{scanning, visited, visit, visit-with, again, ended, ended-at, started, begun, scanned, scanned-from}
@@ -13,6 +15,13 @@ use Rattle.scan.specs.Walking.{walk, walk-overflow}
 
 pub moved-on : (r n : ℕ) → 1 ≤ r → r + n ≤ 64 → r - 1 + (n + 1) ≤ 64
 moved-on r n p q = omega arith
+
+-- the rows kept are, before the first stale one, those that were walked already
+pub walked-before : (m m1 : Rows) (table t tracked n i : ℕ) (g g1 : Hist)
+    → kept n m1 ≡ retained m table t tracked → i ≤ tracked → None (is-stale (m .hashes) (m .units) table t) 0 i
+    → g1 ≡ walk m table t i g → g1 ≡ walk m1 table t i g
+walked-before m m1 table t tracked n i g g1 eK h still e =
+    e ∙ sym (walk-same m1 m table t i g (λ j l. subst (λ (k : Kept). Same (k .rows) j m j) (sym eK) (retained-before m table t i still tracked h j l)))
 
 module _ (h : Shedder) (m : Rows) (g : Hist) where
   pub visit-is : (n : ℕ) (m1 : Rows) (g1 g2 : Hist) (r : Shedder)

@@ -1,14 +1,15 @@
 -- A turn of each loop of the scan. Assumes nothing.
 use mathlib.Core.Path.{_≡_, refl, sym, ap, _∙_}
 use mathlib.Core.Bool.{false}
-use Prim.Native.Nat.{ℕ, zero, suc, _+_, _-_, _≤_}
+use Prim.Native.Nat.{ℕ, zero, suc, _+_, _-_, _≤_, _<_}
 use native.Mathlib.Nat.{add-sub-of-le, add-zero, add-suc}
 use native.Mathlib.Omega.{arith}
 use native.Mathlib.Numerals.{add-one}
 use mathlib.Core.List.{List}
 use lib.Ieee.{Float}
 use Rattle.flow.specs.Flow.{at}
-use Rattle.store.specs.Store.{Rows, None, in-table}
+use Rattle.store.specs.Store.{Rows, None, in-table, table-at, use-at}
+use Rattle.store.proofs.Places.{Same}
 use Rattle.wants.specs.Wants.{Hist}
 use Rattle.wants.specs.Wants as wants
 use Rattle.scan.specs.Walking.{adds, walk, walk-one}
@@ -42,3 +43,13 @@ walk-past m table t i j g h n = ap (λ (k : ℕ). walk m table t k g) (sym (add-
     go (suc d) n =
         ap (λ (k : ℕ). walk m table t k g) (add-suc i d ∙ sym (add-one (i + d))) ∙ walk-next m table t (i + d) g
         ∙ walk-off m table t (i + d) (walk m table t (i + d) g) (n (i + d) (omega arith) (omega arith)) ∙ go d (λ k a b. n k a (omega arith))
+
+-- rows that hold the same at a place, or before n, are walked alike there
+one-same : (m m' : Rows) (table t i : ℕ) (g : Hist) → Same m i m' i → walk-one m table t i g ≡ walk-one m' table t i g
+unfolding Same walk-one table-at use-at
+one-same m m' table t i g s = simp (s .0, s .1, s .2)
+
+pub walk-same : (m m' : Rows) (table t n : ℕ) (g : Hist) → ((i : ℕ) → i < n → Same m i m' i) → walk m table t n g ≡ walk m' table t n g
+unfolding walk
+walk-same m m' table t zero g s = refl
+walk-same m m' table t (suc n) g s = ap (walk-one m table t n) (walk-same m m' table t n g (λ i l. s i (omega arith))) ∙ one-same m m' table t n (walk m' table t n g) (s n (omega arith))

@@ -1,5 +1,6 @@
 // The scan that finds the level again, two tables with each judgement, and the trim.
 ghost use mathlib.Core.Path.{_≡_};
+ghost use mathlib.Core.Bool.{true};
 ghost use Prim.Native.Nat.{_<_, _≤_, _+_};
 ghost use lib.ListN.{length};
 ghost use Rattle.flow.specs.Flow as float;
@@ -47,6 +48,7 @@ fn walk_overflow(
     }
 }
 
+// The record at i, which stands in the table.
 fn walk_one(
     hashes: &[u64],
     units: &[[u64; 7]],
@@ -57,17 +59,17 @@ fn walk_one(
     table: usize,
     at_ms: u64,
 )
-    requires { ⌜ i < length (now hashes) ⌝ }
     requires { ⌜ i < length (now units) ⌝ }
     requires { ⌜ i < length (now uses) ⌝ }
+    requires { ⌜ store.in-table (now hashes) table i ≡ true ⌝ }
     ensures { λ r. ⌜ (wants.hist (now (counts .exit)) (now (sums .exit))) ≡ walking.walk-one (store.rows (now (hashes .entry)) (now (units .entry)) (now (uses .entry))) table «at_ms» i (wants.hist (now (counts .entry)) (now (sums .entry))) ⌝ }
 {
-    if store::table_at(hashes, i) == table {
-        walk_use(counts, sums, store::use_at(units, uses, i), at_ms);
-    }
+    walk_use(counts, sums, store::use_at(units, uses, i), at_ms);
 }
 
-fn walk(
+// The table's records are walked up to the first that is stale: where it stands, else n. A visit that drops none reads the
+// hashes once.
+fn walk_to_stale(
     hashes: &[u64],
     units: &[[u64; 7]],
     uses: &[[f64; 2 * DIMS]],
@@ -76,13 +78,44 @@ fn walk(
     n: usize,
     table: usize,
     at_ms: u64,
-)
+) -> usize
     requires { ⌜ n ≤ length (now hashes) ⌝ }
     requires { ⌜ n ≤ length (now units) ⌝ }
     requires { ⌜ n ≤ length (now uses) ⌝ }
-    ensures { λ r. ⌜ (wants.hist (now (counts .exit)) (now (sums .exit))) ≡ walking.walk (store.rows (now (hashes .entry)) (now (units .entry)) (now (uses .entry))) table «at_ms» n (wants.hist (now (counts .entry)) (now (sums .entry))) ⌝ }
+    ensures { λ r. ⌜ r ≤ n ⌝ }
+    ensures { λ r. ⌜ store.None (store.is-stale (now (hashes .entry)) (now (units .entry)) table «at_ms») 0 r ⌝ }
+    ensures { λ r. ⌜ (wants.hist (now (counts .exit)) (now (sums .exit))) ≡ walking.walk (store.rows (now (hashes .entry)) (now (units .entry)) (now (uses .entry))) table «at_ms» r (wants.hist (now (counts .entry)) (now (sums .entry))) ⌝ }
 {
     let mut i = store::next_in(hashes, 0, n, table);
+    while i < n {
+        if store::is_stale(hashes, units, i, table, at_ms) {
+            return i;
+        }
+        walk_one(hashes, units, uses, counts, sums, i, table, at_ms);
+        i = store::next_in(hashes, i + 1, n, table);
+    }
+    i
+}
+
+// The table's records from `from` on, where those before it were walked.
+fn walk(
+    hashes: &[u64],
+    units: &[[u64; 7]],
+    uses: &[[f64; 2 * DIMS]],
+    counts: &mut [[u32; 768]; DIMS],
+    sums: &mut [[f64; 768]; DIMS],
+    from: usize,
+    n: usize,
+    table: usize,
+    at_ms: u64,
+)
+    requires { ⌜ from ≤ n ⌝ }
+    requires { ⌜ n ≤ length (now hashes) ⌝ }
+    requires { ⌜ n ≤ length (now units) ⌝ }
+    requires { ⌜ n ≤ length (now uses) ⌝ }
+    ensures { λ r. ⌜ ((g : wants.Hist) → wants.hist (now (counts .entry)) (now (sums .entry)) ≡ walking.walk (store.rows (now (hashes .entry)) (now (units .entry)) (now (uses .entry))) table «at_ms» from g → wants.hist (now (counts .exit)) (now (sums .exit)) ≡ walking.walk (store.rows (now (hashes .entry)) (now (units .entry)) (now (uses .entry))) table «at_ms» n g) ⌝ }
+{
+    let mut i = store::next_in(hashes, from, n, table);
     while i < n {
         walk_one(hashes, units, uses, counts, sums, i, table, at_ms);
         i = store::next_in(hashes, i + 1, n, table);
@@ -127,8 +160,18 @@ fn visit(
     let table = s.next;
     let at_ms = s.at_ms;
     walk_overflow(counts, sums, overflow, table, at_ms);
-    let n = store::retain(hashes, units, uses, h.tracked, table, at_ms);
-    walk(hashes, units, uses, counts, sums, n, table, at_ms);
+    let i = walk_to_stale(
+        hashes,
+        units,
+        uses,
+        counts,
+        sums,
+        h.tracked,
+        table,
+        at_ms,
+    );
+    let n = store::retain(hashes, units, uses, i, h.tracked, table, at_ms);
+    walk(hashes, units, uses, counts, sums, i, n, table, at_ms);
     visited(h, n)
 }
 

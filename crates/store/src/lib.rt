@@ -250,7 +250,7 @@ fn since(now: u64, at: u64) -> u64
 }
 
 // Of the table and older than 8,000 milliseconds. The table is asked first: it reads the hash alone.
-fn is_stale(hashes: &[u64], units: &[[u64; 7]], i: usize, table: usize, at_ms: u64) -> bool
+pub fn is_stale(hashes: &[u64], units: &[[u64; 7]], i: usize, table: usize, at_ms: u64) -> bool
     requires { ⌜ i < length (now hashes) ⌝ }
     requires { ⌜ i < length (now units) ⌝ }
     ensures { λ r. ⌜ r ≡ store.is-stale (now (hashes .entry)) (now (units .entry)) table «at_ms» i ⌝ }
@@ -260,23 +260,6 @@ fn is_stale(hashes: &[u64], units: &[[u64; 7]], i: usize, table: usize, at_ms: u
     } else {
         false
     }
-}
-
-// The first of n records that is stale, else n.
-fn first_stale(hashes: &[u64], units: &[[u64; 7]], n: usize, table: usize, at_ms: u64) -> usize
-    requires { ⌜ n ≤ length (now hashes) ⌝ }
-    requires { ⌜ n ≤ length (now units) ⌝ }
-    ensures { λ r. ⌜ r ≡ store.first (store.is-stale (now (hashes .entry)) (now (units .entry)) table «at_ms») n ⌝ }
-    ensures { λ r. ⌜ r ≤ n ⌝ }
-{
-    let mut i = next_in(hashes, 0, n, table);
-    while i < n {
-        if is_stale(hashes, units, i, table, at_ms) {
-            return i;
-        }
-        i = next_in(hashes, i + 1, n, table);
-    }
-    n
 }
 
 // The record at i is moved to j, and i freed.
@@ -330,6 +313,7 @@ fn retain_one(
     requires { ⌜ i < length (now uses) ⌝ }
     requires { ⌜ j ≤ i ⌝ }
     ensures { λ r. ⌜ store.kept r (store.rows (now (hashes .exit)) (now (units .exit)) (now (uses .exit))) ≡ store.retain-one (store.kept j (store.rows (now (hashes .entry)) (now (units .entry)) (now (uses .entry)))) table «at_ms» i ⌝ }
+    ensures { λ r. ⌜ j ≤ r ⌝ }
     ensures { λ r. ⌜ r ≤ i + 1 ⌝ }
 {
     if is_stale(hashes, units, i, table, at_ms) {
@@ -343,24 +327,28 @@ fn retain_one(
     j + 1
 }
 
-// Of n records those that are not stale stay, in their order; freed places become 0. Nothing is written up to the first
-// stale record, and past it a record that stays is copied once.
+// Of n records those that are not stale stay, in their order; freed places become 0. Before `from` none is stale, so nothing
+// is written there; from there on a record that stays is copied once.
 pub fn retain(
     hashes: &mut [u64],
     units: &mut [[u64; 7]],
     uses: &mut [[f64; 2 * DIMS]],
+    from: usize,
     n: usize,
     table: usize,
     at_ms: u64,
 ) -> usize
+    requires { ⌜ from ≤ n ⌝ }
     requires { ⌜ n ≤ length (now hashes) ⌝ }
     requires { ⌜ n ≤ length (now units) ⌝ }
     requires { ⌜ n ≤ length (now uses) ⌝ }
+    requires { ⌜ store.None (store.is-stale (now hashes) (now units) table «at_ms») 0 from ⌝ }
     ensures { λ r. ⌜ store.kept r (store.rows (now (hashes .exit)) (now (units .exit)) (now (uses .exit))) ≡ store.retained (store.rows (now (hashes .entry)) (now (units .entry)) (now (uses .entry))) table «at_ms» n ⌝ }
+    ensures { λ r. ⌜ from ≤ r ⌝ }
     ensures { λ r. ⌜ r ≤ n ⌝ }
 {
-    let mut i = first_stale(hashes, units, n, table, at_ms);
-    let mut j = i;
+    let mut i = from;
+    let mut j = from;
     while i < n {
         j = retain_one(hashes, units, uses, i, j, table, at_ms);
         i += 1;
