@@ -138,6 +138,33 @@ fn visited(h: Shedder, n: usize) -> Shedder
     r
 }
 
+// A table's stale records are dropped, and the wants of the others are added, overflow's first at table 0: how many records
+// are left. The head stays outside, since it would be copied.
+fn swept(
+    hashes: &mut [u64],
+    units: &mut [[u64; 7]],
+    uses: &mut [[f64; 2 * DIMS]],
+    counts: &mut [[u32; 768]; DIMS],
+    sums: &mut [[f64; 768]; DIMS],
+    overflow: Use,
+    tracked: usize,
+    table: usize,
+    at_ms: u64,
+) -> usize
+    requires { ⌜ tracked ≤ length (now hashes) ⌝ }
+    requires { ⌜ tracked ≤ length (now units) ⌝ }
+    requires { ⌜ tracked ≤ length (now uses) ⌝ }
+    ensures { λ r. ⌜ store.kept r (store.rows (now (hashes .exit)) (now (units .exit)) (now (uses .exit))) ≡ store.retained (store.rows (now (hashes .entry)) (now (units .entry)) (now (uses .entry))) table «at_ms» tracked ⌝ }
+    ensures { λ r. ⌜ (wants.hist (now (counts .exit)) (now (sums .exit))) ≡ walking.walk (store.rows (now (hashes .exit)) (now (units .exit)) (now (uses .exit))) table «at_ms» r (walking.walk-overflow overflow table «at_ms» (wants.hist (now (counts .entry)) (now (sums .entry)))) ⌝ }
+    ensures { λ r. ⌜ r ≤ tracked ⌝ }
+{
+    walk_overflow(counts, sums, overflow, table, at_ms);
+    let i = walk_to_stale(hashes, units, uses, counts, sums, tracked, table, at_ms);
+    let n = store::retain(hashes, units, uses, i, tracked, table, at_ms);
+    walk(hashes, units, uses, counts, sums, i, n, table, at_ms);
+    n
+}
+
 fn visit(
     h: Shedder,
     hashes: &mut [u64],
@@ -157,21 +184,17 @@ fn visit(
 {
     let s = h.scan;
     let overflow = h.overflow;
-    let table = s.next;
-    let at_ms = s.at_ms;
-    walk_overflow(counts, sums, overflow, table, at_ms);
-    let i = walk_to_stale(
+    let n = swept(
         hashes,
         units,
         uses,
         counts,
         sums,
+        overflow,
         h.tracked,
-        table,
-        at_ms,
+        s.next,
+        s.at_ms,
     );
-    let n = store::retain(hashes, units, uses, i, h.tracked, table, at_ms);
-    walk(hashes, units, uses, counts, sums, i, n, table, at_ms);
     visited(h, n)
 }
 

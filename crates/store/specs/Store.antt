@@ -1,5 +1,5 @@
 -- Rows of lent memory: where a record's parts lie, finding, adding, and dropping the stale of one table. Definitions only.
-use Prim.Native.Nat.{ℕ, zero, suc, _+_, _-_, _<_, _≤_}
+use Prim.Native.Nat.{ℕ, zero, suc, _+_, _-_, _%_, _^_, _<_, _≤_}
 use mathlib.Core.Path.{_≡_}
 use mathlib.Core.Bool.{Bool, true, false, cond, not}
 use mathlib.Core.List.{List, [], _∷_}
@@ -96,12 +96,12 @@ first p (suc n) = cond (ltb (first p n) n) (first p n) (cond (p n) n (suc n))
 unfoldable pub find : List ℕ → List (List ℕ) → Name → ℕ → ℕ
 find hashes units name n = first (is-at hashes units name) n
 
--- p holds at none of the places from i up to j; and whether it holds at one of the four from i on
+-- p holds at none of the places from i up to j
 abbrev pub None : (ℕ → Bool) → ℕ → ℕ → Type 0
 None p i j = (k : ℕ) → i ≤ k → k < j → p k ≡ false
 
-unfoldable pub near : (ℕ → Bool) → ℕ → Bool
-near p i = cond (p i) true (cond (p (i + 1)) true (cond (p (i + 2)) true (p (i + 3))))
+abbrev pub lower : ℕ → ℕ
+lower word = word % 2 ^ 32
 
 unfoldable pub has-hash : List ℕ → ℕ → ℕ → Bool
 has-hash hashes hash i = eqb (getD hashes i 0) hash

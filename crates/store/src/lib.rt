@@ -1,6 +1,6 @@
 // Rows of lent memory: a unit's record.
 ghost use mathlib.Core.Path.{_≡_};
-ghost use mathlib.Core.Bool.{true};
+ghost use mathlib.Core.Bool.{true, false};
 ghost use Prim.Native.Nat.{_<_, _≤_, _+_};
 ghost use lib.ListN.{length};
 ghost use Rattle.store.specs.Store as store;
@@ -130,35 +130,46 @@ pub fn is_at(hashes: &[u64], units: &[[u64; 7]], i: usize, name: Name) -> bool
     false
 }
 
-// Whether one of the four records from i on has the hash. Four comparisons in a row cost less than four turns of a loop.
-fn near_hash(hashes: &[u64], i: usize, hash: u64) -> bool
-    requires { ⌜ i + 4 ≤ length (now hashes) ⌝ }
-    ensures { λ r. ⌜ r ≡ store.near (store.has-hash (now (hashes .entry)) hash) i ⌝ }
+// How many records are tried at once.
+const NEAR: usize = 8;
+
+// The lower 32 bits.
+fn lower(word: u64) -> u32
+    ensures { λ r. ⌜ r ≡ store.lower word ⌝ }
 {
-    if hashes[i] == hash {
-        return true;
-    }
-    if hashes[i + 1] == hash {
-        return true;
-    }
-    if hashes[i + 2] == hash {
-        return true;
-    }
-    hashes[i + 3] == hash
+    (word % 4294967296) as u32
 }
 
-// A place up to n before which no record has the hash, in steps of four.
+// Whether one of the NEAR records from i on may have the hash: a hash with the same lower half is enough. No jump depends on
+// a comparison, so the compiler makes four of them at once.
+fn near_hash(hashes: &[u64], i: usize, hash: u64) -> bool
+    requires { ⌜ i + 8 ≤ length (now hashes) ⌝ }
+    ensures { λ r. ⌜ (r ≡ false → store.None (store.has-hash (now (hashes .entry)) hash) i (i + 8)) ⌝ }
+{
+    let low = lower(hash);
+    let mut met = false;
+    let mut k = 0;
+    while k < NEAR {
+        if lower(hashes[i + k]) == low {
+            met = true;
+        }
+        k += 1;
+    }
+    met
+}
+
+// A place up to n before which no record has the hash, in steps of NEAR.
 fn skip_to_hash(hashes: &[u64], n: usize, hash: u64) -> usize
     requires { ⌜ n ≤ length (now hashes) ⌝ }
     ensures { λ r. ⌜ r ≤ n ⌝ }
     ensures { λ r. ⌜ store.None (store.has-hash (now (hashes .entry)) hash) 0 r ⌝ }
 {
     let mut i = 0;
-    while 4 <= n - i {
+    while NEAR <= n - i {
         if near_hash(hashes, i, hash) {
             return i;
         }
-        i += 4;
+        i += NEAR;
     }
     i
 }
@@ -189,24 +200,24 @@ pub fn table_at(hashes: &[u64], i: usize) -> usize
     sender::table_of_hash(hashes[i])
 }
 
-// Whether one of the four records from i on is of the table.
+// Whether one of the NEAR records from i on may be of the table, by the lower halves as above.
 fn near_table(hashes: &[u64], i: usize, table: usize) -> bool
-    requires { ⌜ i + 4 ≤ length (now hashes) ⌝ }
-    ensures { λ r. ⌜ r ≡ store.near (store.in-table (now (hashes .entry)) table) i ⌝ }
+    requires { ⌜ i + 8 ≤ length (now hashes) ⌝ }
+    ensures { λ r. ⌜ (r ≡ false → store.None (store.in-table (now (hashes .entry)) table) i (i + 8)) ⌝ }
 {
-    if table_at(hashes, i) == table {
-        return true;
+    let low = lower(table as u64);
+    let mut met = false;
+    let mut k = 0;
+    while k < NEAR {
+        if lower(table_at(hashes, i + k) as u64) == low {
+            met = true;
+        }
+        k += 1;
     }
-    if table_at(hashes, i + 1) == table {
-        return true;
-    }
-    if table_at(hashes, i + 2) == table {
-        return true;
-    }
-    table_at(hashes, i + 3) == table
+    met
 }
 
-// A place up to n before which no record from `from` on is of the table, in steps of four.
+// A place up to n before which no record from `from` on is of the table, in steps of NEAR.
 fn skip_to_table(hashes: &[u64], from: usize, n: usize, table: usize) -> usize
     requires { ⌜ from ≤ n ⌝ }
     requires { ⌜ n ≤ length (now hashes) ⌝ }
@@ -215,11 +226,11 @@ fn skip_to_table(hashes: &[u64], from: usize, n: usize, table: usize) -> usize
     ensures { λ r. ⌜ store.None (store.in-table (now (hashes .entry)) table) from r ⌝ }
 {
     let mut i = from;
-    while 4 <= n - i {
+    while NEAR <= n - i {
         if near_table(hashes, i, table) {
             return i;
         }
-        i += 4;
+        i += NEAR;
     }
     i
 }

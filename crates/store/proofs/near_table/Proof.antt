@@ -1,50 +1,58 @@
--- `store::near_table` meets its contract. Assumes nothing.
+-- `store::near_table` meets its contract: where no lower half is met, none of the places passed is. Assumes nothing.
+use Prim.Native.Nat.{_+_, _-_, _≤_}
 use borrow.Author.Needs.{needs}
-use borrow.Author.Tests.{eq-eqb, ne-eqb}
-use mathlib.Core.Path.{sym, ap, _∙_}
-use Prim.Native.Nat.{ℕ}
-use lib.Dec.{eqb}
-use Rattle.store.specs.Store.{in-table}
-use Rattle.store.proofs.Steps.{near-first, near-second, near-third, near-last}
+use borrow.Author.Tests.{ne-eqb}
+use native.Mathlib.Omega.{arith}
+use lib.ListN.{length}
+use mathlib.Core.Path.{_≡_, sym, ap, _∙_}
+use mathlib.Core.Bool.{true≢false, false}
+use mathlib.Core.Logic.{inl, inr}
+use Rattle.store.specs.Store.{None, in-table, lower}
+use Rattle.store.proofs.Steps.{none-more}
 use Rattle.store.proofs.near_table.Statement.{statement}
 use Rattle.store.proofs.near_table.Tie as tie
 
-table-at-requires : tie.Need-table-at-requires
-table-at-requires c κs = search needs
+abbrev Inv-loop : tie.InvT-loop
+Inv-loop hashes i table low met₀ k₀ met k = (k ≤ 8) × (i + 8 ≤ length hashes) × (low ≡ lower table) × (met ≡ false → None (in-table hashes table) i (i + k))
 
-returns : tie.Need-returns
-unfolding in-table
-returns c = near-first _ _ (eq-eqb _ _ (sym (c .before .table-at .ensures) ∙ c .if1 .taken))
+abbrev μ-loop : tie.MeasureT-loop
+μ-loop hashes i table low met₀ k₀ met k = 8 - k
 
-add-table-at : tie.Need-add-table-at
+lower-requires : tie.Need-lower-requires Inv-loop μ-loop
+lower-requires c κs = search needs
+
+loop-holds : tie.Need-loop-holds Inv-loop μ-loop
+loop-holds c = (search needs, search needs, c .lower .ensures, λ f j h l. absurd (omega arith))
+
+add-table-at : tie.Need-add-table-at Inv-loop μ-loop
 add-table-at c = search needs
 
-table-at-requires-2 : tie.Need-table-at-requires-2
-table-at-requires-2 c κs = search needs
+table-at-requires : tie.Need-table-at-requires Inv-loop μ-loop
+table-at-requires c κs = search needs
 
-returns-2 : tie.Need-returns-2
+lower-requires-2 : tie.Need-lower-requires-2 Inv-loop μ-loop
+lower-requires-2 c κs = search needs
+
+add-k : tie.Need-add-k Inv-loop μ-loop
+add-k c = search needs
+
+loop-less : tie.Need-loop-less Inv-loop μ-loop
+loop-less c = search needs
+
+loop-again : tie.Need-loop-again Inv-loop μ-loop
 unfolding in-table
-returns-2 c = near-second _ _ (ne-eqb _ _ (λ e. c .before .before .if1 .left (c .before .before .before .table-at .ensures ∙ e))) (eq-eqb _ _ (sym (c .before .table-at2 .ensures) ∙ c .if2 .taken))
+loop-again c = (
+  search needs,
+  search needs,
+  c .before .before .before .before .loop .inv .2,
+  elim (c .if1 .came) [
+    | inl t ↦ λ f. absurd (true≢false (sym (t .1) ∙ f))
+    | inr t ↦ λ f. none-more _ _ _ (c .before .before .before .before .loop .inv .3 (sym (t .1) ∙ f)) (ne-eqb _ _ (λ q. t .0 .left (c .before .lower2 .ensures ∙ ap lower (c .before .before .table-at .ensures ∙ q) ∙ sym (c .before .before .before .before .loop .inv .2))))
+  ],
+)
 
-add-table-at-2 : tie.Need-add-table-at-2
-add-table-at-2 c = search needs
-
-table-at-requires-3 : tie.Need-table-at-requires-3
-table-at-requires-3 c κs = search needs
-
-returns-3 : tie.Need-returns-3
-unfolding in-table
-returns-3 c = near-third _ _ (ne-eqb _ _ (λ e. c .before .before .before .before .if1 .left (c .before .before .before .before .before .table-at .ensures ∙ e))) (ne-eqb _ _ (λ e. c .before .before .if2 .left (c .before .before .before .table-at2 .ensures ∙ e))) (eq-eqb _ _ (sym (c .before .table-at3 .ensures) ∙ c .if3 .taken))
-
-add-table-at-3 : tie.Need-add-table-at-3
-add-table-at-3 c = search needs
-
-table-at-requires-4 : tie.Need-table-at-requires-4
-table-at-requires-4 c κs = search needs
-
-returns-4 : tie.Need-returns-4
-unfolding in-table
-returns-4 c = ap (λ (x : ℕ). eqb x (c .before .before .before .before .before .before .before .before .args .table)) (c .table-at4 .ensures) ∙ near-last _ _ (ne-eqb _ _ (λ e. c .before .before .before .before .before .if1 .left (c .before .before .before .before .before .before .table-at .ensures ∙ e))) (ne-eqb _ _ (λ e. c .before .before .before .if2 .left (c .before .before .before .before .table-at2 .ensures ∙ e))) (ne-eqb _ _ (λ e. c .before .if3 .left (c .before .before .table-at3 .ensures ∙ e)))
+returns : tie.Need-returns Inv-loop μ-loop
+returns c = let e : c .before .loop .k ≡ 8 = omega arith in λ f. rw e at (c .before .loop .inv .3 f)
 
 pub near-table-spec : {M : Type 1} → statement M
-near-table-spec = tie.close (tie.spec table-at-requires returns add-table-at table-at-requires-2 returns-2 add-table-at-2 table-at-requires-3 returns-3 add-table-at-3 table-at-requires-4 returns-4)
+near-table-spec = tie.close (tie.spec Inv-loop μ-loop lower-requires loop-holds add-table-at table-at-requires lower-requires-2 add-k loop-less loop-again returns)

@@ -1,10 +1,9 @@
--- `store::skip_to_hash` meets its contract: the places passed, four at a time. Assumes nothing.
+-- `store::skip_to_hash` meets its contract: the places passed, eight at a time. Assumes nothing.
 use Prim.Native.Nat.{_≤_, _-_}
 use borrow.Author.Needs.{needs}
 use lib.ListN.{length}
-use mathlib.Core.Path.{sym, _∙_}
 use Rattle.store.specs.Store.{None, has-hash}
-use Rattle.store.proofs.Steps.{none-here, none-join, near-none}
+use Rattle.store.proofs.Steps.{none-here, none-join}
 use Rattle.store.proofs.skip_to_hash.Statement.{statement}
 use Rattle.store.proofs.skip_to_hash.Tie as tie
 
@@ -33,7 +32,7 @@ loop-less : tie.Need-loop-less Inv-loop μ-loop
 loop-less c = search needs
 
 loop-again : tie.Need-loop-again Inv-loop μ-loop
-loop-again c = (search needs, search needs, none-join _ _ _ _ (c .before .before .before .loop .inv .2) (near-none _ _ (sym (c .before .near-hash .ensures) ∙ c .if1 .left)))
+loop-again c = (search needs, search needs, none-join _ _ _ _ (c .before .before .before .loop .inv .2) (c .before .near-hash .ensures (c .if1 .left)))
 
 returns-2 : tie.Need-returns-2 Inv-loop μ-loop
 returns-2 c = (search needs, c .before .loop .inv .2)
