@@ -175,7 +175,7 @@ fn cut(
     counted: &mut [[u64; 8]],
 ) -> Tried {
     let cost = c.amounts;
-    let d = shed::cut(
+    let d = cut::cut(
         head,
         hashes,
         units,
@@ -467,7 +467,7 @@ fn prepared(
         1200,
     );
     let h = j.head;
-    let c = shed::cut(
+    let c = cut::cut(
         h,
         hashes,
         units,

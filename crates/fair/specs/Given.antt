@@ -11,11 +11,11 @@ pub use Rattle.scan.specs.Trimming.{trims-at}
 unfoldable pub use Rattle.scan.specs.Trimming.{opens, levels, trimmed}
 pub use Rattle.scan.specs.Scanning.{Scanning, scanning, Started, started, ended-at, scanned-from}
 unfoldable pub use Rattle.scan.specs.Scanning.{visited, visit, again, ended, opened, begun, scanned}
-pub use Rattle.shed.specs.Entering.{Entered, entered, place, headed}
-unfoldable pub use Rattle.shed.specs.Entering.{is-misplaced, entry, used-at, put-back}
-pub use Rattle.shed.specs.Counting.{Tally, tally}
-unfoldable pub use Rattle.shed.specs.Counting.{cause-of, added, tallied, told}
+pub use Rattle.entry.specs.Entering.{Entered, entered, place, headed}
+unfoldable pub use Rattle.entry.specs.Entering.{is-misplaced, entry, used-at, put-back}
+pub use Rattle.tally.specs.Counting.{Tally, tally}
+unfoldable pub use Rattle.tally.specs.Counting.{cause-of, added, tallied, told}
 pub use Rattle.shed.specs.Judging.{Through, passing, outcome-at, Memory, memory, Judged, judge-ends}
 unfoldable pub use Rattle.shed.specs.Judging.{rank-at, outcome, flowed, judged, answer-of, bounded, judge}
-pub use Rattle.shed.specs.Cutting.{KeptBy, kept-by, handed-at, Cut, cut-ends, cut-after}
-unfoldable pub use Rattle.shed.specs.Cutting.{hands-back, flowed-back, handed-back, noted, cut}
+pub use Rattle.cut.specs.Cutting.{KeptBy, kept-by, handed-at, Cut, cut-ends, cut-after}
+unfoldable pub use Rattle.cut.specs.Cutting.{hands-back, flowed-back, handed-back, noted, cut}

@@ -16,10 +16,10 @@ use Rattle.head.specs.Readings.{index-of}
 use Rattle.store.specs.Store.{Rows}
 use Rattle.wants.specs.Wants.{Hist}
 use Rattle.shed.specs.declared.Judgement.{Judgement}
-use Rattle.shed.specs.declared.Cutting.{Cutting}
+use Rattle.cut.specs.declared.Cutting.{Cutting}
 use Rattle.shed.specs.Judging as judging
 use Rattle.shed.specs.Judging.{Memory, memory}
-use Rattle.shed.specs.Cutting as cutting
+use Rattle.cut.specs.Cutting as cutting
 use Rattle.sender.specs.declared.Unit as unit
 use Rattle.sender.specs.declared.Words.{Words}
 use Rattle.sender.specs.Sender as sender

@@ -20,7 +20,7 @@ use Rattle.head.specs.Answers.{judge-number}
 use Rattle.head.specs.Numbers.{choose}
 use Rattle.head.specs.Questions.{is-unbounded, judge-asked}
 use Rattle.head.proofs.Asked.{asked-ready}
-use Rattle.shed.specs.Entering.{entry, entered, place, is-misplaced}
+use Rattle.entry.specs.Entering.{entry, entered, place, is-misplaced}
 use Rattle.shed.specs.Judging as judging
 use Rattle.shed.specs.Judging.{Memory, Judged, judge-ends, bounded}
 use Rattle.fair.specs.Calls as calls

@@ -118,7 +118,7 @@ fn cut_row(
     let unit = sender::unit_of(words_in(row));
     let cost = cost_in(row);
     let cause = cause_in(row[6]);
-    let cut = shed::cut(head, hashes, units, uses, counted, unit, cause, cost);
+    let cut = cut::cut(head, hashes, units, uses, counted, unit, cause, cost);
     let answer = cut.answer;
     let left = cut.head;
     let number = cut_number(answer);

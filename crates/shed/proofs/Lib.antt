@@ -1,5 +1,3 @@
-pub mod Bounding
+-- Passing: a judgement on a record. Bounding: a judgement of a bounded relay.
 pub mod Passing
-pub mod Nine
-pub mod Whole
-pub mod Stays
+pub mod Bounding

@@ -26,8 +26,8 @@ use Rattle.shed.specs.declared.Judgement.{Judgement}
 use Rattle.head.specs.Numbers.{dims, choose}
 use Rattle.head.specs.Questions.{is-unbounded, judge-asked}
 use Rattle.scan.specs.Scanning.{Scanning, scanning, scanned}
-use Rattle.shed.specs.Entering.{is-misplaced, Entered, entry, used-at, Back, put-back, headed}
-use Rattle.shed.specs.Counting.{Tally, tally, told}
+use Rattle.entry.specs.Entering.{is-misplaced, Entered, entry, used-at, Back, put-back, headed}
+use Rattle.tally.specs.Counting.{Tally, tally, told}
 
 -- what was admitted so far, and this cost
 unfoldable pub raised : List Float → List Float → List Float

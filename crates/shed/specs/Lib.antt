@@ -1,5 +1,1 @@
 pub mod Judging
-pub mod Entering
-pub mod Counting
-pub mod Cutting
-pub mod Whole

@@ -11,9 +11,9 @@ use Rattle.head.specs.declared.Starting.{Starting}
 use Rattle.head.specs.Answers.{start-number, cut-number}
 use Rattle.head.specs.Start as starts
 use Rattle.shed.specs.declared.Judgement.{Judgement}
-use Rattle.shed.specs.declared.Cutting.{Cutting}
+use Rattle.cut.specs.declared.Cutting.{Cutting}
 use Rattle.shed.specs.Judging as judging
-use Rattle.shed.specs.Cutting as cutting
+use Rattle.cut.specs.Cutting as cutting
 use Rattle.report.specs.declared.Written.{Written}
 use Rattle.report.specs.Report as reports
 use Rattle.tankpost.specs.declared.Count.{Count}

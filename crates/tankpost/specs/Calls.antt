@@ -7,7 +7,7 @@ use Rattle.head.specs.declared.Shedder.{Shedder}
 use Rattle.head.specs.Answers.{start-number, cut-number}
 use Rattle.head.specs.Start as starts
 use Rattle.shed.specs.Judging as judging
-use Rattle.shed.specs.Cutting as cutting
+use Rattle.cut.specs.Cutting as cutting
 use Rattle.report.specs.Report as reports
 use Rattle.tankpost.specs.declared.Answered.{Answered}
 use Rattle.tankpost.specs.declared.Count.{Count}

@@ -9,7 +9,7 @@ ghost use Rattle.wants.specs.Wants as wants;
 ghost use Rattle.head.specs.Start as starts;
 ghost use Rattle.head.specs.Readings as readings;
 ghost use Rattle.shed.specs.Judging as judging;
-ghost use Rattle.shed.specs.Cutting as cutting;
+ghost use Rattle.cut.specs.Cutting as cutting;
 ghost use Rattle.report.specs.Report as reports;
 ghost use Rattle.tankpost.specs.Codes as codes;
 ghost use Rattle.tankpost.specs.Calls as calls;
@@ -110,7 +110,7 @@ pub extern "C" fn tankpost_judge(
     }
 }
 
-// shed::cut for the cause of that number: 0 counted, or the number of the refusal.
+// cut::cut for the cause of that number: 0 counted, or the number of the refusal.
 #[no_mangle]
 pub extern "C" fn tankpost_cut(
     head: Shedder,
@@ -124,7 +124,7 @@ pub extern "C" fn tankpost_cut(
 ) -> Answered
     ensures { λ r. ⌜ calls.cut r (store.rows (now (hashes .exit)) (now (units .exit)) (now (uses .exit))) (now (counted .exit)) ≡ calls.cut-told (cutting.cut head (store.rows (now (hashes .entry)) (now (units .entry)) (now (uses .entry))) (now (counted .entry)) (sender.unit-of unit) (codes.cause-of cause) (now (cost .entry))) ⌝ }
 {
-    let c = shed::cut(
+    let c = cut::cut(
         head,
         hashes,
         units,

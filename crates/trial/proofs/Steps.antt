@@ -13,10 +13,10 @@ use Rattle.head.specs.declared.Shedder.{Shedder}
 use Rattle.head.specs.declared.Starting.{Starting}
 use Rattle.head.specs.Start as starts
 use Rattle.shed.specs.declared.Judgement.{Judgement}
-use Rattle.shed.specs.declared.Cutting.{Cutting}
+use Rattle.cut.specs.declared.Cutting.{Cutting}
 use Rattle.shed.specs.Judging as judging
 use Rattle.shed.specs.Judging.{Memory, memory, Judged}
-use Rattle.shed.specs.Cutting as cutting
+use Rattle.cut.specs.Cutting as cutting
 use Rattle.report.specs.Lines.{text}
 use Rattle.report.specs.Report.{report-asked, front, choose}
 use Rattle.script.specs.declared.StartLine.{StartLine}

@@ -204,7 +204,7 @@ fn cut(
     let was = t.head;
     let unit = l.unit;
     let cause = l.cause;
-    let c = shed::cut(
+    let c = cut::cut(
         was,
         hashes,
         units,

@@ -1,4 +1,4 @@
-use Rattle.shed.proofs.Passing.{named-words}
+use Rattle.entry.proofs.Names.{named-words}
 use Rattle.shed.proofs.Bounding.{bounded-is, clock-held}
 use Rattle.head.proofs.Bounds.{le-by, lt-by, le-to}
 use Rattle.head.specs.declared.Scan.{Scan}

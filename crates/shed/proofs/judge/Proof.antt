@@ -2,7 +2,7 @@ use Rattle.head.proofs.Asked.{asked-ready}
 use Rattle.head.proofs.Bounds.{le-to}
 use Rattle.head.specs.Answers.{judge-number}
 use Rattle.shed.specs.Judging.{judge}
-use Rattle.shed.proofs.Nine.{never-nine}
+use Rattle.entry.proofs.Nine.{never-nine}
 use mathlib.Core.Bool.{true≢false}
 use borrow.Author.Tests.{eq-eqb, ne-eqb}
 use mathlib.Core.Path.{sym, _∙_}

@@ -1,0 +1,3 @@
+-- Nine: question 9 is never answered no. Names: a unit's name has its hash and its words.
+pub mod Nine
+pub mod Names

@@ -1,0 +1,3 @@
+-- Whole: a start and a scan. Stays: a judgement and a cut, and the statement.
+pub mod Whole
+pub mod Stays
