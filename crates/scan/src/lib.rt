@@ -198,6 +198,7 @@ fn visit(
     visited(h, n)
 }
 
+// A second visit, where a table remains. It is written out: `visit`, called twice, would not be inlined and would copy the head.
 fn again(
     h: Shedder,
     hashes: &mut [u64],
@@ -214,7 +215,19 @@ fn again(
 {
     let s = h.scan;
     if 1 <= s.remaining {
-        visit(h, hashes, units, uses, counts, sums)
+        let overflow = h.overflow;
+        let n = swept(
+            hashes,
+            units,
+            uses,
+            counts,
+            sums,
+            overflow,
+            h.tracked,
+            s.next,
+            s.at_ms,
+        );
+        visited(h, n)
     } else {
         h
     }

@@ -1,11 +1,16 @@
 use Rattle.scan.specs.Scanning.{again}
+use Rattle.scan.proofs.Scanning.{visit-is}
 use borrow.Author.Tests.{le-leb, lt-leb}
+use mathlib.Core.Path.{refl}
 use borrow.Author.Needs.{needs}
 use Rattle.scan.proofs.again.Statement.{statement}
 use Rattle.scan.proofs.again.Tie as tie
 
-visit-requires : tie.Need-visit-requires
-visit-requires c κs = search needs
+swept-requires : tie.Need-swept-requires
+swept-requires c κs = search needs
+
+visited-requires : tie.Need-visited-requires
+visited-requires c κs = search needs
 
 same-length : tie.Need-same-length
 same-length c = search needs
@@ -18,12 +23,13 @@ same-length-3 c = search needs
 
 returns : tie.Need-returns
 unfolding again
-returns c = simp (le-leb _ _ (c .before .before .before .before .before .before .before .before .before .before .if1 .taken)) (c .before .before .before .before .visit .ensures .0)
+returns c =
+    simp (le-leb _ _ (c .before .before .before .before .before .before .before .before .before .before .before .before .if1 .taken))
+    (visit-is (c .before .before .before .before .before .before .before .before .before .before .before .before .before .before .before .before .args .h) _ _ (c .before .before .before .before .before .swept .result) _ _ _ (c .visited .result) (c .before .before .before .before .before .swept .ensures .0) refl (c .before .before .before .before .before .swept .ensures .1 .0) (c .visited .ensures))
 
 returns-2 : tie.Need-returns-2
 unfolding again
 returns-2 c = simp (lt-leb _ _ (c .if1 .left))
 
 pub again-spec : {M : Type 1} → statement M
-again-spec =
-    tie.close (tie.spec visit-requires same-length same-length-2 same-length-3 returns returns-2)
+again-spec = tie.close (tie.spec swept-requires visited-requires same-length same-length-2 same-length-3 returns returns-2)
