@@ -4,9 +4,10 @@ use Prim.Native.Nat.{ℕ, _-_}
 use mathlib.Core.List.{List}
 use lib.Ieee.{Float}
 use Rattle.flow.specs.Flow as flow
+use Rattle.verdict.specs.Verdict as verdicts
 use Rattle.flow.specs.declared.Bucket.{Bucket}
 use Rattle.flow.specs.declared.Use.{Use}
-use Rattle.flow.specs.declared.Outcome.{Outcome}
+use Rattle.verdict.specs.declared.Outcome.{Outcome}
 use Rattle.sender.specs.declared.Unit.{Unit}
 use Rattle.sender.specs.declared.Name.{Name}
 use Rattle.sender.specs.Sender.{name-of, hash-of, words-of}
@@ -68,12 +69,12 @@ handed-is h m u cost p i1 u1 u2 s1 s2 x y sh f eE eU eY eB eF =
 -- the parts of an outcome, and of a flow after a hand-back
 pub outcome-is : (f : Flow) (level : List Float) (u : Use) (rank : Float) (cost : List Float) (now : ℕ) (o : Outcome) (e : ℕ) (fill paid : List Float)
     → paid ≡ flow.numbers (f .rate) → fill ≡ flow.fills level paid → e ≡ now - f .«at_ms»
-    → o ≡ flow.judged (f .buckets) u now e cost fill level rank
+    → o ≡ verdicts.judged (f .buckets) u now e cost fill level rank
     → o ≡ outcome f level u rank cost now
 unfolding outcome
 outcome-is f level u rank cost now o e fill paid eP eF eE eO =
-    eO ∙ ap (λ (e : ℕ). flow.judged (f .buckets) u now e cost fill level rank) eE
-    ∙ ap (λ (fill : List Float). flow.judged (f .buckets) u now (now - f .«at_ms») cost fill level rank) (eF ∙ ap (flow.fills level) eP)
+    eO ∙ ap (λ (e : ℕ). verdicts.judged (f .buckets) u now e cost fill level rank) eE
+    ∙ ap (λ (fill : List Float). verdicts.judged (f .buckets) u now (now - f .«at_ms») cost fill level rank) (eF ∙ ap (flow.fills level) eP)
 
 pub flowed-back-is : (f : Flow) (cost : List Float) (bs : List Bucket) (admitted : List Float)
     → bs ≡ flow.returned-all (f .buckets) cost → admitted ≡ lowered (f .admitted) cost

@@ -14,9 +14,7 @@ ghost use Rattle.shed.specs.Counting as counting;
 ghost use Rattle.shed.specs.Cutting as cutting;
 use flow::Bucket;
 use flow::DIMS;
-use flow::Outcome;
 use flow::Use;
-use flow::Verdict;
 use head::Answer;
 use head::Cause;
 use head::Done;
@@ -25,6 +23,8 @@ use head::Shedder;
 use sender::Name;
 use sender::Unit;
 use sender::Words;
+use verdict::Outcome;
+use verdict::Verdict;
 
 // the counts of cuts
 mod tally;
@@ -171,7 +171,7 @@ fn outcome(
     let buckets = f.buckets;
     let rate = f.rate;
     let fill = flow::fills(level, flow::numbers(rate));
-    flow::judged(
+    verdict::judged(
         buckets,
         used,
         now,
