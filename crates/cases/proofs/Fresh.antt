@@ -8,9 +8,10 @@ use lib.IntN.{pos}
 use lib.Ieee as Ieee
 use lib.Ieee.{Float, fin, binary64, ofBits, ofInt}
 use Rattle.fade.specs.Fade.{fade}
-use Rattle.flow.specs.declared.Verdict.the-variants.{RelayRate}
-use Rattle.flow.specs.Flow.{zeros, one, whole, at, each, upto, largest, all, added, opened, fills, want, refilled-all, credited, covers, suffice, leaves, mark-of, pick, within, above, judged}
-use Rattle.flow.proofs.Laws.{told}
+use Rattle.verdict.specs.declared.Verdict.the-variants.{RelayRate}
+use Rattle.flow.specs.Flow.{zeros, one, whole, at, each, upto, largest, all, added, opened, fills, refilled-all, credited}
+use Rattle.verdict.specs.Verdict.{want, covers, suffice, leaves, mark-of, pick, within, above, judged}
+use Rattle.verdict.proofs.Laws.{told}
 use Rattle.cases.specs.Cases.{buckets, rate, cost, fresh-want}
 
 pub fade-of-0 : fade 0 ≡ fin false 1 (pos 0)

@@ -8,9 +8,10 @@ use lib.ListN.{length, replicate}
 use lib.Ieee.{Float, fin}
 use Rattle.fade.specs.Fade.{fade}
 use Rattle.flow.specs.Flow as flow
-use Rattle.flow.specs.Flow.{dims, one, whole, opened, fills, want, weight-of, met, judged}
+use Rattle.flow.specs.Flow.{dims, one, whole, opened, fills}
+use Rattle.verdict.specs.Verdict.{want, weight-of, met, judged}
 use Rattle.flow.specs.declared.Bucket.{Bucket}
-use Rattle.flow.specs.declared.Verdict.the-variants.{RelayRate}
+use Rattle.verdict.specs.declared.Verdict.the-variants.{RelayRate}
 use Rattle.label.specs.Label.{label}
 use Rattle.sender.specs.Sender.{bytes-of, hash-of, table-of}
 use Rattle.sender.specs.declared.Group.the-variants.{V6}

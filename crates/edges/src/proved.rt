@@ -140,7 +140,7 @@ fn fresh_want() {
     says::text(b"rate 10, fresh cost 20: tokens ");
     says::double(Bucket::new(10, 0).tokens);
     says::text(b", want ");
-    says::double(flow::want(flow::weight_of(true, 0), attempted, cost, rate));
+    says::double(verdict::want(verdict::weight_of(true, 0), attempted, cost, rate));
 }
 
 // And the verdict on it.

@@ -1,4 +1,4 @@
--- What `flow::judged` computes is what the demand's model does at a judgement of the record. Assumes nothing.
+-- What `verdict::judged` computes is what the demand's model does at a judgement of the record. Assumes nothing.
 use mathlib.Core.Path.{_≡_, refl, ap, _∙_}
 use Prim.Native.Nat.{ℕ, _-_, _<_, max}
 use mathlib.Core.Bool.{Bool, true, false}
@@ -8,9 +8,10 @@ use lib.Ieee as Ieee
 use lib.Ieee.{Float}
 use Rattle.flow.specs.declared.Bucket.{Bucket}
 use Rattle.flow.specs.declared.Use.{Use}
-use Rattle.flow.specs.declared.Outcome.{Outcome}
-use Rattle.flow.specs.declared.Verdict.{Verdict}
+use Rattle.verdict.specs.declared.Outcome.{Outcome}
+use Rattle.verdict.specs.declared.Verdict.{Verdict}
 use Rattle.flow.specs.Flow as flow
+use Rattle.verdict.specs.Verdict as verdicts
 use Rattle.flow.specs.Flow.{dims, nothing, whole, at, bucket-at, all}
 use Rattle.flow.proofs.Parts.{upto-length, each-at, buckets-at, all-same}
 use Rattle.fair.specs.Tokens.{paid}
@@ -25,17 +26,17 @@ module _ (s : State) (bs : List Bucket) (clk t : ℕ) (cost : ℕ → ℕ) (fill
 
   -- what the code returns
   abbrev outcome : Outcome
-  outcome = flow.judged bs used now (now - clk) (priced cost) fill level rank
+  outcome = verdicts.judged bs used now (now - clk) (priced cost) fill level rank
 
   -- the batch as the model has it, with its want and its reserve test
   abbrev wants : Float
-  wants = flow.want (flow.weight-of (used .fresh) (now - used .«at_ms»)) (flow.tried (flow.fade-to (flow.credited used now fill) now) (priced cost) .attempted) (priced cost) level
+  wants = verdicts.want (verdicts.weight-of (used .fresh) (now - used .«at_ms»)) (flow.tried (flow.fade-to (flow.credited used now fill) now) (priced cost) .attempted) (priced cost) level
 
   abbrev full : List Bucket
   full = flow.refilled-all bs (now - clk)
 
   abbrev batch : Batch
-  batch = record { stamp = t; cost = cost; want = wants; reserve = flow.leaves full (priced cost) (flow.mark-of wants rank) }
+  batch = record { stamp = t; cost = cost; want = wants; reserve = verdicts.leaves full (priced cost) (verdicts.mark-of wants rank) }
 
   full-at : (d : ℕ) → d < dims → bucket-at full d ≡ filled s clk batch d
   full-at d small = buckets-at (λ (d : ℕ). flow.refilled (bucket-at bs d) (now - clk)) bs d small long ∙ ap (λ (b : Bucket). flow.refilled b (now - clk)) (same d small)
@@ -43,21 +44,21 @@ module _ (s : State) (bs : List Bucket) (clk t : ℕ) (cost : ℕ → ℕ) (fill
   priced-at : (d : ℕ) → d < dims → at (priced cost) d ≡ whole (cost d)
   priced-at d small = each-at (λ (i : ℕ). whole (cost i)) (replicate dims nothing) d small (length-replicate dims nothing)
 
-  suffice-same : flow.suffice full (priced cost) ≡ all (λ (d : ℕ). Ieee.le (whole (cost d)) (filled s clk batch d .tokens)) dims
+  suffice-same : verdicts.suffice full (priced cost) ≡ all (λ (d : ℕ). Ieee.le (whole (cost d)) (filled s clk batch d .tokens)) dims
   suffice-same = all-same (λ (d : ℕ). Ieee.le (at (priced cost) d) (bucket-at full d .tokens)) (λ (d : ℕ). Ieee.le (whole (cost d)) (filled s clk batch d .tokens)) dims
       (λ d small. ap (λ (x : Float). Ieee.le x (bucket-at full d .tokens)) (priced-at d small) ∙ ap (λ (b : Bucket). Ieee.le (whole (cost d)) (b .tokens)) (full-at d small))
 
   -- the verdict that the code goes by
   abbrev decision : Verdict
-  decision = flow.decided wants (flow.covers (flow.credited used now fill .credit) (priced cost)) (flow.suffice full (priced cost)) (batch .reserve)
+  decision = verdicts.decided wants (verdicts.covers (flow.credited used now fill .credit) (priced cost)) (verdicts.suffice full (priced cost)) (batch .reserve)
 
   decision-same : decision ≡ verdict-here s clk batch fill
-  decision-same = ap (λ (b : Bool). flow.decided wants (flow.covers (flow.credited used now fill .credit) (priced cost)) b (batch .reserve)) suffice-same
+  decision-same = ap (λ (b : Bool). verdicts.decided wants (verdicts.covers (flow.credited used now fill .credit) (priced cost)) b (batch .reserve)) suffice-same
 
-  verdict-of : (v : Verdict) (fs : List Bucket) (u : Use) (c : List Float) → flow.settled v fs u c .verdict ≡ v
-  verdict-of v fs u c = go (flow.is-admitted v)
+  verdict-of : (v : Verdict) (fs : List Bucket) (u : Use) (c : List Float) → verdicts.settled v fs u c .verdict ≡ v
+  verdict-of v fs u c = go (verdicts.is-admitted v)
     where
-      go : (b : Bool) → flow.either b (record { verdict = v; buckets = flow.spent-all fs c; used = flow.charged u c }) (record { verdict = v; buckets = fs; used = u }) .verdict ≡ v
+      go : (b : Bool) → verdicts.either b (record { verdict = v; buckets = flow.spent-all fs c; used = flow.charged u c }) (record { verdict = v; buckets = fs; used = u }) .verdict ≡ v
       go true = refl
       go false = refl
 
@@ -68,7 +69,7 @@ module _ (s : State) (bs : List Bucket) (clk t : ℕ) (cost : ℕ → ℕ) (fill
   next = flow.tried (flow.fade-to (flow.credited used now fill) now) (priced cost)
 
   abbrev settled-by : Bool → Outcome
-  settled-by b = flow.either b (record { verdict = decision; buckets = flow.spent-all full (priced cost); used = flow.charged next (priced cost) }) (record { verdict = decision; buckets = full; used = next })
+  settled-by b = verdicts.either b (record { verdict = decision; buckets = flow.spent-all full (priced cost); used = flow.charged next (priced cost) }) (record { verdict = decision; buckets = full; used = next })
 
   used-of : (b : Bool) → settled-by b .used ≡ settled b next cost
   used-of true = refl

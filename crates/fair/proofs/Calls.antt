@@ -11,8 +11,8 @@ use lib.Ieee.{Float}
 use Rattle.ieee.specs.Units.{power, units}
 use Rattle.flow.specs.Flow.{dims, one, at}
 use Rattle.flow.specs.declared.Use.{Use}
-use Rattle.flow.specs.declared.Verdict.{Verdict}
-use Rattle.flow.specs.declared.Verdict.the-variants as verdict
+use Rattle.verdict.specs.declared.Verdict.{Verdict}
+use Rattle.verdict.specs.declared.Verdict.the-variants as verdict
 use Rattle.sender.specs.declared.Unit as unit
 use Rattle.sender.specs.Sender as sender
 use Rattle.store.specs.Store as store

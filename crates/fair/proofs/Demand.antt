@@ -10,10 +10,12 @@ use lib.Ieee.{Float, nan}
 use Rattle.ieee.specs.Units.{power}
 use Rattle.flow.specs.declared.Bucket.{Bucket}
 use Rattle.flow.specs.declared.Use.{Use}
-use Rattle.flow.specs.declared.Verdict.{Verdict}
-use Rattle.flow.specs.declared.Verdict.the-variants.{Admitted, OverShare, RelayRate}
+use Rattle.verdict.specs.declared.Verdict.{Verdict}
+use Rattle.verdict.specs.declared.Verdict.the-variants.{Admitted, OverShare, RelayRate}
 use Rattle.flow.specs.Flow as flow
-use Rattle.flow.specs.Flow.{dims, one, nothing, whole, at, pick}
+use Rattle.verdict.specs.Verdict as verdicts
+use Rattle.flow.specs.Flow.{dims, one, nothing, whole, at}
+use Rattle.verdict.specs.Verdict.{pick}
 use Rattle.flow.proofs.Parts.{upto-length, each-at, all-at, all-of}
 use Rattle.fair.specs.Runs.{sum, highest, lowest, clock, back, Each}
 use Rattle.fair.specs.Tokens as tokens
@@ -35,7 +37,7 @@ admission false true true false e = absurd (true≢false (sym e))
 admission false true false r e = absurd (true≢false (sym e))
 admission false false t r e = absurd (true≢false (sym e))
 
-admits-both : (w : Float) (c t r : Bool) → is-admitted (flow.decided w c t r) ≡ true → (c ≡ true) × (t ≡ true)
+admits-both : (w : Float) (c t r : Bool) → is-admitted (verdicts.decided w c t r) ≡ true → (c ≡ true) × (t ≡ true)
 admits-both w c t r e = admission (Ieee.le w one) c t r e
 
 true-of : (b : Bool) → T b → b ≡ true
@@ -53,8 +55,8 @@ not-over true true r l e = true≢false (sym (ap is-over e))
 not-over true false r l e = true≢false (sym (ap is-over e))
 not-over false t r l e = l
 
-within-level : (w : Float) (c t r : Bool) → c ≡ true → T (Ieee.le w one) → flow.decided w c t r ≡ OverShare → ⊥
-within-level w c t r q l e = not-over (Ieee.le w one) t r l (subst (λ (c : Bool). flow.decided w c t r ≡ OverShare) q e)
+within-level : (w : Float) (c t r : Bool) → c ≡ true → T (Ieee.le w one) → verdicts.decided w c t r ≡ OverShare → ⊥
+within-level w c t r q l e = not-over (Ieee.le w one) t r l (subst (λ (c : Bool). verdicts.decided w c t r ≡ OverShare) q e)
 
 -- a test that a passed one implies changes nothing
 and-same : (a b : Bool) → (a ≡ true → b ≡ true) → a && b ≡ a

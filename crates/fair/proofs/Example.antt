@@ -6,9 +6,10 @@ use mathlib.Core.List.{List, [], _∷_}
 use lib.Dec.{eqb}
 use lib.Ieee as Ieee
 use lib.Ieee.{Float}
-use Rattle.flow.specs.declared.Verdict.{Verdict}
-use Rattle.flow.specs.declared.Verdict.the-variants.{Admitted, OverShare, RelayRate}
+use Rattle.verdict.specs.declared.Verdict.{Verdict}
+use Rattle.verdict.specs.declared.Verdict.the-variants.{Admitted, OverShare, RelayRate}
 use Rattle.flow.specs.Flow as flow
+use Rattle.verdict.specs.Verdict as verdicts
 use Rattle.flow.specs.Flow.{whole, one, half}
 use Rattle.fair.specs.Runs.{clock}
 use Rattle.fair.specs.Demand.{Batch}
@@ -38,13 +39,13 @@ answer a b want h = verdict ℕ eqb never 256 (two 10 1000) (two 0 0) 7 (batch a
 
 -- what the batches want: alone; with the first before it; with both
 want-first : Float
-want-first = flow.want one (both 5 100) (both 5 100) (both 10 1000)
+want-first = verdicts.want one (both 5 100) (both 5 100) (both 10 1000)
 
 want-second : Float
-want-second = flow.want half (both 11 100) (both 6 0) (both 10 1000)
+want-second = verdicts.want half (both 11 100) (both 6 0) (both 10 1000)
 
 want-third : Float
-want-third = flow.want half (both 41 100) (both 30 0) (both 10 1000)
+want-third = verdicts.want half (both 41 100) (both 30 0) (both 10 1000)
 
 first : answer 5 100 want-first [] ≡ Admitted
 unfolding answer judge batch two both Ieee.le flow.largest Ieee.ne Ieee.ofBits Ieee.div Ieee.add Ieee.ofInt Ieee.mul Ieee.sub flow.all flow.upto store clock want-first

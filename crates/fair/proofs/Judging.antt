@@ -11,10 +11,11 @@ use lib.Ieee.{Float}
 use borrow.Author.Tests.{eqb-true, eq-eqb, leb-true, ltb-false}
 use Rattle.flow.proofs.Parts.{all-at}
 use Rattle.sender.specs.Sender as sender
-use Rattle.flow.specs.Flow.{dims, at, bucket-at, is-admitted}
+use Rattle.flow.specs.Flow.{dims, at, bucket-at}
+use Rattle.verdict.specs.Verdict.{is-admitted}
 use Rattle.flow.specs.declared.Use.{Use}
-use Rattle.flow.specs.declared.Outcome.{Outcome}
-use Rattle.flow.specs.declared.Verdict.{Verdict}
+use Rattle.verdict.specs.declared.Outcome.{Outcome}
+use Rattle.verdict.specs.declared.Verdict.{Verdict}
 use Rattle.sender.specs.declared.Unit as unit
 use Rattle.counted.specs.Counted as counts
 use Rattle.store.specs.Store.{Rows, rows}

@@ -8,11 +8,12 @@ use lib.Ieee as Ieee
 use lib.Ieee.{Float, binary64}
 use Rattle.flow.specs.declared.Bucket.{Bucket}
 use Rattle.flow.specs.declared.Use.{Use}
-use Rattle.flow.specs.declared.Outcome.{Outcome}
-use Rattle.flow.specs.declared.Verdict.{Verdict}
+use Rattle.verdict.specs.declared.Outcome.{Outcome}
+use Rattle.verdict.specs.declared.Verdict.{Verdict}
 use Rattle.ieee.specs.Extremes.{most}
 use Rattle.fade.specs.Fade.{fade}
 use Rattle.flow.specs.Flow as flow
+use Rattle.verdict.specs.Verdict as verdicts
 use Rattle.flow.specs.Flow.{dims, nothing, whole, at, bucket-at}
 use Rattle.flow.proofs.Parts.{upto-length, each-at, buckets-at}
 use Rattle.fair.specs.Given as shed
@@ -34,32 +35,32 @@ batch-of bs x clk t cost fill level rank = record {
   stamp = t;
   cost = costs cost;
   want = calls.want-of x (max t clk) (priced (costs cost)) fill level;
-  reserve = flow.leaves (flow.refilled-all bs (max t clk - clk)) (priced (costs cost)) (flow.mark-of (calls.want-of x (max t clk) (priced (costs cost)) fill level) rank);
+  reserve = verdicts.leaves (flow.refilled-all bs (max t clk - clk)) (priced (costs cost)) (verdicts.mark-of (calls.want-of x (max t clk) (priced (costs cost)) fill level) rank);
 }
 
 abbrev pub outcome-of : List Bucket → Use → ℕ → ℕ → List ℕ → List Float → List Float → Float → Outcome
-outcome-of bs x clk t cost fill level rank = flow.judged bs x (max t clk) (max t clk - clk) (priced (costs cost)) fill level rank
+outcome-of bs x clk t cost fill level rank = verdicts.judged bs x (max t clk) (max t clk - clk) (priced (costs cost)) fill level rank
 
 -- ---- the outcome has a part for each dimension
-pub settled-whole : (v : Verdict) (bs : List Bucket) (u : Use) (c : List Float) → Whole u → Whole (flow.settled v bs u c .used)
-settled-whole v bs u c w = go (flow.is-admitted v)
+pub settled-whole : (v : Verdict) (bs : List Bucket) (u : Use) (c : List Float) → Whole u → Whole (verdicts.settled v bs u c .used)
+settled-whole v bs u c w = go (verdicts.is-admitted v)
   where
-    go : (b : Bool) → Whole (flow.either b (record { verdict = v; buckets = flow.spent-all bs c; used = flow.charged u c }) (record { verdict = v; buckets = bs; used = u }) .used)
+    go : (b : Bool) → Whole (verdicts.either b (record { verdict = v; buckets = flow.spent-all bs c; used = flow.charged u c }) (record { verdict = v; buckets = bs; used = u }) .used)
     go true = record { attempted = w .attempted; credit = upto-length (λ (d : ℕ). Ieee.sub binary64 (at (u .credit) d) (at c d)) dims (u .credit) ∙ w .credit }
     go false = w
 
-pub settled-long : (v : Verdict) (bs : List Bucket) (u : Use) (c : List Float) → length bs ≡ dims → length (flow.settled v bs u c .buckets) ≡ dims
-settled-long v bs u c l = go (flow.is-admitted v)
+pub settled-long : (v : Verdict) (bs : List Bucket) (u : Use) (c : List Float) → length bs ≡ dims → length (verdicts.settled v bs u c .buckets) ≡ dims
+settled-long v bs u c l = go (verdicts.is-admitted v)
   where
-    go : (b : Bool) → length (flow.either b (record { verdict = v; buckets = flow.spent-all bs c; used = flow.charged u c }) (record { verdict = v; buckets = bs; used = u }) .buckets) ≡ dims
+    go : (b : Bool) → length (verdicts.either b (record { verdict = v; buckets = flow.spent-all bs c; used = flow.charged u c }) (record { verdict = v; buckets = bs; used = u }) .buckets) ≡ dims
     go true = upto-length (λ (d : ℕ). flow.spent (bucket-at bs d) (at c d)) dims bs ∙ l
     go false = l
 
-weighed-whole : (wants rank : Float) (bs : List Bucket) (u : Use) (c : List Float) → Whole u → Whole (flow.weighed wants rank bs u c .used)
-weighed-whole wants rank bs u c w = settled-whole (flow.decided wants (flow.covers (u .credit) c) (flow.suffice bs c) (flow.leaves bs c (flow.mark-of wants rank))) bs u c w
+weighed-whole : (wants rank : Float) (bs : List Bucket) (u : Use) (c : List Float) → Whole u → Whole (verdicts.weighed wants rank bs u c .used)
+weighed-whole wants rank bs u c w = settled-whole (verdicts.decided wants (verdicts.covers (u .credit) c) (verdicts.suffice bs c) (verdicts.leaves bs c (verdicts.mark-of wants rank))) bs u c w
 
-weighed-long : (wants rank : Float) (bs : List Bucket) (u : Use) (c : List Float) → length bs ≡ dims → length (flow.weighed wants rank bs u c .buckets) ≡ dims
-weighed-long wants rank bs u c l = settled-long (flow.decided wants (flow.covers (u .credit) c) (flow.suffice bs c) (flow.leaves bs c (flow.mark-of wants rank))) bs u c l
+weighed-long : (wants rank : Float) (bs : List Bucket) (u : Use) (c : List Float) → length bs ≡ dims → length (verdicts.weighed wants rank bs u c .buckets) ≡ dims
+weighed-long wants rank bs u c l = settled-long (verdicts.decided wants (verdicts.covers (u .credit) c) (verdicts.suffice bs c) (verdicts.leaves bs c (verdicts.mark-of wants rank))) bs u c l
 
 pub record Sound (s : State) (bs : List Bucket) (clk t : ℕ) (cost : List ℕ) (fill level : List Float) (rank : Float) (x : Use) : Type 0 where
   pub verdict : outcome-of bs x clk t cost fill level rank .verdict ≡ verdict-here s clk (batch-of bs x clk t cost fill level rank) fill
@@ -73,13 +74,13 @@ module _ (bs : List Bucket) (clk t : ℕ) (cost : List ℕ) (fill level : List F
       let a = upto-length (λ (d : ℕ). Ieee.add binary64 (at (f .attempted) d) (at (priced (costs cost)) d)) dims (f .attempted)
       ∙ upto-length (λ (d : ℕ). Ieee.mul binary64 (at (x .attempted) d) (fade (max t clk - x .«at_ms»))) dims (x .attempted) ∙ w .attempted in
       let c = upto-length (λ (d : ℕ). flow.credit-of (x .fresh) (at (x .credit) d) (at fill d) (max t clk - x .«at_ms»)) dims (x .credit) ∙ w .credit in
-      let n = flow.met x (max t clk) fill (priced (costs cost)) in
+      let n = verdicts.met x (max t clk) fill (priced (costs cost)) in
       weighed-whole (calls.want-of x (max t clk) (priced (costs cost)) fill level) rank (flow.refilled-all bs (max t clk - clk)) n (priced (costs cost)) (record { attempted = a; credit = c })
 
   pub outcome-long : (x : Use) → length (outcome-of bs x clk t cost fill level rank .buckets) ≡ dims
   outcome-long x =
       let a = upto-length (λ (d : ℕ). flow.refilled (bucket-at bs d) (max t clk - clk)) dims bs ∙ long in
-      let n = flow.met x (max t clk) fill (priced (costs cost)) in
+      let n = verdicts.met x (max t clk) fill (priced (costs cost)) in
       weighed-long (calls.want-of x (max t clk) (priced (costs cost)) fill level) rank (flow.refilled-all bs (max t clk - clk)) n (priced (costs cost)) a
 
   pub outcome-sound : (s : State) → ((d : ℕ) → d < dims → bucket-at bs d ≡ s .bucket d) → (x : Use) → x ≡ found (s .used) (max t clk) → Sound s bs clk t cost fill level rank x

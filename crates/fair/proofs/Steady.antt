@@ -10,8 +10,8 @@ use lib.Dec.{eqb, leb, ltb}
 use lib.ListN.{length, getD, set, length-set, replicate}
 use lib.Ieee.{Float}
 use borrow.Author.Tests.{ltb-true, ltb-false, leb-true}
-use Rattle.flow.specs.Flow.{is-admitted}
-use Rattle.flow.specs.declared.Verdict.{Verdict}
+use Rattle.verdict.specs.Verdict.{is-admitted}
+use Rattle.verdict.specs.declared.Verdict.{Verdict}
 use Rattle.sender.specs.declared.Unit as unit
 use Rattle.sender.specs.declared.Words.{Words}
 use Rattle.sender.specs.Sender as sender

@@ -9,8 +9,8 @@ use lib.Ieee as Ieee
 use lib.Ieee.{Float}
 use Rattle.ieee.specs.Units.{power, units}
 use Rattle.flow.specs.declared.Use.{Use}
-use Rattle.flow.specs.declared.Verdict.{Verdict}
-use Rattle.flow.specs.declared.Verdict.the-variants.{OverShare}
+use Rattle.verdict.specs.declared.Verdict.{Verdict}
+use Rattle.verdict.specs.declared.Verdict.the-variants.{OverShare}
 use Rattle.flow.specs.Flow as flow
 use Rattle.flow.specs.Flow.{dims, one, at}
 use Rattle.fair.specs.Runs.{sum, highest, lowest, clock, back, Each}

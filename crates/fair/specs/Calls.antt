@@ -10,7 +10,7 @@ use lib.ListN.{length, getD}
 use lib.Ieee as Ieee
 use lib.Ieee.{Float}
 use Rattle.ieee.specs.Units.{power, units}
-use Rattle.flow.specs.Flow as flow
+use Rattle.verdict.specs.Verdict as verdicts
 use Rattle.flow.specs.Flow.{dims, one, at}
 use Rattle.flow.specs.declared.Use.{Use}
 use Rattle.sender.specs.declared.Unit as unit
@@ -177,7 +177,7 @@ fills s = shed.fills (s .head .level) (shed.numbers (s .head .flow .rate))
 
 abbrev pub want-of : Use → ℕ → List Float → List Float → List Float → Float
 want-of u clock cost fill level =
-    flow.want (flow.weight-of (u .fresh) (clock - u .«at_ms»)) (flow.met u clock fill cost .attempted) cost level
+    verdicts.want (verdicts.weight-of (u .fresh) (clock - u .«at_ms»)) (verdicts.met u clock fill cost .attempted) cost level
 
 abbrev pub want : State → unit.Unit → List ℕ → ℕ → Float
 want s u cost t = want-of (used s u (now s t)) (now s t) (shed.numbers cost) (fills s) (s .head .level)

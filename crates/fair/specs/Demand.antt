@@ -15,9 +15,10 @@ use lib.Ieee.{Float}
 use Rattle.ieee.specs.Units.{power, units, Amount}
 use Rattle.flow.specs.declared.Bucket.{Bucket}
 use Rattle.flow.specs.declared.Use.{Use}
-use Rattle.flow.specs.declared.Verdict.{Verdict}
-use Rattle.flow.specs.declared.Verdict.the-variants.{OverShare}
+use Rattle.verdict.specs.declared.Verdict.{Verdict}
+use Rattle.verdict.specs.declared.Verdict.the-variants.{OverShare}
 use Rattle.flow.specs.Flow as flow
+use Rattle.verdict.specs.Verdict as verdicts
 use Rattle.flow.specs.Flow.{dims, one, nothing, whole, at, each, all}
 use Rattle.fair.specs.Runs.{sum, highest, lowest, Since, clock, back, Each}
 use Rattle.fair.specs.Tokens.{burst, paid}
@@ -86,16 +87,16 @@ abbrev pub tokens-hold : State → ℕ → Batch → Bool
 tokens-hold s clock b = all (λ (d : ℕ). Ieee.le (whole (b .cost d)) (filled s clock b d .tokens)) dims
 
 abbrev pub credit-holds : State → ℕ → Batch → List Float → Bool
-credit-holds s clock b fill = flow.covers (credited s clock b fill .credit) (priced (b .cost))
+credit-holds s clock b fill = verdicts.covers (credited s clock b fill .credit) (priced (b .cost))
 
 abbrev pub verdict-here : State → ℕ → Batch → List Float → Verdict
-verdict-here s clock b fill = flow.decided (b .want) (credit-holds s clock b fill) (tokens-hold s clock b) (b .reserve)
+verdict-here s clock b fill = verdicts.decided (b .want) (credit-holds s clock b fill) (tokens-hold s clock b) (b .reserve)
 
 abbrev pub verdict-there : State → ℕ → Batch → Bool → Verdict
-verdict-there s clock b credit = flow.decided (b .want) credit (tokens-hold s clock b) (b .reserve)
+verdict-there s clock b credit = verdicts.decided (b .want) credit (tokens-hold s clock b) (b .reserve)
 
 abbrev pub is-admitted : Verdict → Bool
-is-admitted v = flow.is-admitted v
+is-admitted v = verdicts.is-admitted v
 
 abbrev pub settled : Bool → Use → (ℕ → ℕ) → Use
 settled true u c = flow.charged u (priced c)

@@ -1,9 +1,8 @@
--- The shedder's float core: the token bucket, one unit's use, and the decision. Each function of src/ has its definition here for its contract.
+-- The shedder's float core: the token bucket and one unit's use. Each function of src/ has its definition here for its contract.
 -- A value with a part for each dimension is a list; its parts are given by a function of the dimension, so that the number of dimensions stands only in `dims`. Definitions only.
 use Prim.Native.Nat.{ℕ, zero, suc, _-_, _^_, min, max}
 use mathlib.Core.Bool.{Bool, true, false, _&&_, cond}
 use mathlib.Core.List.{List}
-use lib.Dec.{leb}
 use lib.IntN.{pos}
 use lib.ListN.{getD, set, replicate}
 use lib.Ieee as Ieee
@@ -12,9 +11,6 @@ use Rattle.ieee.specs.Extremes.{least, most}
 use Rattle.fade.specs.Fade.{fade}
 use Rattle.flow.specs.declared.Bucket.{Bucket}
 use Rattle.flow.specs.declared.Use.{Use}
-use Rattle.flow.specs.declared.Outcome.{Outcome}
-use Rattle.flow.specs.declared.Verdict.{Verdict}
-use Rattle.flow.specs.declared.Verdict.the-variants.{Admitted, OverShare, RelayRate}
 
 abbrev pub dims : ℕ
 dims = 2
@@ -74,35 +70,6 @@ credit-of fresh credit fill idle =
 -- after a hand-back: no cap until the next judgement
 abbrev pub credit-back : Float → Float → Float
 credit-back credit cost = Ieee.add binary64 credit cost
-
-abbrev pub weight-of : Bool → ℕ → Float
-weight-of fresh idle = cond fresh one (cond (leb 2000 idle) one half)
-
--- how many times the level the unit wants; `attempted` has this batch in it already
-abbrev pub want-of : Float → Float → Float → Float → Float
-want-of weight attempted cost level =
-    Ieee.div binary64 (Ieee.div binary64 (Ieee.add binary64 attempted (Ieee.mul binary64 (Ieee.sub binary64 weight one) cost)) two) level
-
--- the three rules, each for one dimension
-abbrev pub credit-holds : Float → Float → Bool
-credit-holds credit cost = Ieee.le cost credit
-
-abbrev pub tokens-hold : Bucket → Float → Bool
-tokens-hold b cost = Ieee.le cost (b .tokens)
-
--- the part of the burst that the batch would leave reaches the mark
-abbrev pub reserve-holds : Bucket → Float → Float → Bool
-reserve-holds b cost mark = Ieee.le mark (Ieee.div binary64 (Ieee.sub binary64 (b .tokens) cost) (b .burst))
-
-abbrev pub tenth : Float
-tenth = ofBits binary64 0x3fb9_9999_9999_999a
-
-abbrev pub millionth : Float
-millionth = ofBits binary64 0x3eb0_c6f7_a0b5_ed8d
-
--- the mark rises with the want, by a hair with the rank
-abbrev pub mark-of : Float → Float → Float
-mark-of wants rank = Ieee.mul binary64 tenth (Ieee.sub binary64 one (Ieee.div binary64 one (Ieee.mul binary64 wants (Ieee.add binary64 one (Ieee.mul binary64 rank millionth)))))
 
 -- ---- over the dimensions: the parts below n anew, each by f
 unfoldable pub upto : {A : Type 0} → (ℕ → A) → ℕ → List A → List A
@@ -173,12 +140,6 @@ tried u cost = record {
 unfoldable pub rates : Use → ℕ → List Float
 rates u t = upto (λ (d : ℕ). Ieee.div binary64 (Ieee.mul binary64 (at (u .attempted) d) (fade (t - u .«at_ms»))) two) dims zeros
 
-abbrev pub want : Float → List Float → List Float → List Float → Float
-want weight attempted cost level = largest (λ (d : ℕ). want-of weight (at attempted d) (at cost d) (at level d)) dims
-
-abbrev pub covers : List Float → List Float → Bool
-covers credit cost = all (λ (d : ℕ). credit-holds (at credit d) (at cost d)) dims
-
 abbrev pub charged : Use → List Float → Use
 charged u cost = holding u (each (λ (d : ℕ). Ieee.sub binary64 (at (u .credit) d) (at cost d)) (u .credit))
 
@@ -189,25 +150,6 @@ handed-back u cost = record {
   «at_ms» = u .«at_ms»;
   fresh = u .fresh;
 }
-
--- ---- the decision: within the level, credit and then tokens; above it all must hold, the reserve too
-abbrev pub pick : Bool → Verdict → Verdict → Verdict
-pick true a b = a
-pick false a b = b
-
-abbrev pub within : Bool → Bool → Verdict
-within credit tokens = pick credit (pick tokens Admitted RelayRate) OverShare
-
-abbrev pub above : Bool → Bool → Bool → Verdict
-above credit tokens reserve = pick credit (pick tokens (pick reserve Admitted OverShare) OverShare) OverShare
-
-abbrev pub decided : Float → Bool → Bool → Bool → Verdict
-decided wants credit tokens reserve = pick (Ieee.le wants one) (within credit tokens) (above credit tokens reserve)
-
-abbrev pub is-admitted : Verdict → Bool
-is-admitted Admitted = true
-is-admitted OverShare = false
-is-admitted RelayRate = false
 
 -- ---- the buckets, over the dimensions
 abbrev pub bucket-at : List Bucket → ℕ → Bucket
@@ -221,30 +163,3 @@ spent-all bs cost = upto (λ (d : ℕ). spent (bucket-at bs d) (at cost d)) dims
 
 abbrev pub returned-all : List Bucket → List Float → List Bucket
 returned-all bs cost = upto (λ (d : ℕ). returned (bucket-at bs d) (at cost d)) dims bs
-
-abbrev pub suffice : List Bucket → List Float → Bool
-suffice bs cost = all (λ (d : ℕ). tokens-hold (bucket-at bs d) (at cost d)) dims
-
-abbrev pub leaves : List Bucket → List Float → Float → Bool
-leaves bs cost mark = all (λ (d : ℕ). reserve-holds (bucket-at bs d) (at cost d) mark) dims
-
--- ---- a judgement on a record that was found or added
-abbrev pub either : Bool → Outcome → Outcome → Outcome
-either true a b = a
-either false a b = b
-
-abbrev pub settled : Verdict → List Bucket → Use → List Float → Outcome
-settled v bs u cost = either (is-admitted v) (record { verdict = v; buckets = spent-all bs cost; used = charged u cost }) (record { verdict = v; buckets = bs; used = u })
-
--- with the buckets refilled, and the use credited and tried
-abbrev pub weighed : Float → Float → List Bucket → Use → List Float → Outcome
-weighed wants rank bs u cost = settled (decided wants (covers (u .credit) cost) (suffice bs cost) (leaves bs cost (mark-of wants rank))) bs u cost
-
--- the use after a judgement's credit, fade and try
-abbrev pub met : Use → ℕ → List Float → List Float → Use
-met u now fill cost = tried (fade-to (credited u now fill) now) cost
-
--- fresh and idle are those before the fade
-abbrev pub judged : List Bucket → Use → ℕ → ℕ → List Float → List Float → List Float → Float → Outcome
-judged bs u now elapsed cost fill level rank =
-    weighed (want (weight-of (u .fresh) (now - u .«at_ms»)) (met u now fill cost .attempted) cost level) rank (refilled-all bs elapsed) (met u now fill cost) cost

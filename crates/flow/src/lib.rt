@@ -1,6 +1,5 @@
-// The float core of a judgement, by value: the token bucket, a unit's use, the want and the decision. No store is known here.
+// The float core of a judgement, by value: the token bucket and a unit's use. The want and the decision are in `verdict`. No store is known here.
 ghost use mathlib.Core.Path.{_≡_};
-ghost use mathlib.Core.Bool.{_&&_};
 ghost use Prim.Native.Nat.{_≤_, _<_, _^_, _-_, min, max};
 ghost use Rattle.flow.specs.Flow as flow;
 
@@ -21,12 +20,6 @@ pub struct Use {
     pub credit: [f64; DIMS],
     pub at_ms: u64,
     pub fresh: bool,
-}
-
-pub enum Verdict {
-    Admitted,
-    OverShare,
-    RelayRate,
 }
 
 // ---- numbers
@@ -77,7 +70,7 @@ pub fn fills(level: [f64; DIMS], rate: [f64; DIMS]) -> [f64; DIMS]
 }
 
 // The time since `at`, none if that is not past.
-fn since(now: u64, at: u64) -> u64
+pub fn since(now: u64, at: u64) -> u64
     ensures { λ r. ⌜ r ≡ now - at ⌝ }
 {
     if at < now { now - at } else { 0 }
@@ -87,12 +80,6 @@ fn later(a: u64, b: u64) -> u64
     ensures { λ r. ⌜ r ≡ max a b ⌝ }
 {
     if a < b { b } else { a }
-}
-
-fn both(a: bool, b: bool) -> bool
-    ensures { λ r. ⌜ r ≡ a && b ⌝ }
-{
-    if a { b } else { false }
 }
 
 // ---- the bucket
@@ -178,110 +165,7 @@ fn credit_back(credit: f64, cost: f64) -> f64
     credit + cost
 }
 
-// A batch counts half of itself once the unit has a history: the sums are read just after it came.
-pub fn weight_of(fresh: bool, idle: u64) -> f64
-    ensures { λ r. ⌜ r ≡ flow.weight-of fresh idle ⌝ }
-{
-    if fresh {
-        return 1.0;
-    }
-    if 2000 <= idle { 1.0 } else { 0.5 }
-}
-
-// How many times the level the unit wants; this batch is in `attempted` already.
-pub fn want_of(weight: f64, attempted: f64, cost: f64, level: f64) -> f64
-    ensures { λ r. ⌜ r ≡ flow.want-of weight attempted cost level ⌝ }
-{
-    (attempted + (weight - 1.0) * cost) / 2.0 / level
-}
-
-// The three rules, each for one dimension.
-pub fn credit_holds(credit: f64, cost: f64) -> bool
-    ensures { λ r. ⌜ r ≡ flow.credit-holds credit cost ⌝ }
-{
-    cost <= credit
-}
-
-pub fn tokens_hold(b: Bucket, cost: f64) -> bool
-    ensures { λ r. ⌜ r ≡ flow.tokens-hold b cost ⌝ }
-{
-    cost <= b.tokens
-}
-
-// The part of the burst that is left reaches the mark.
-pub fn reserve_holds(b: Bucket, cost: f64, mark: f64) -> bool
-    ensures { λ r. ⌜ r ≡ flow.reserve-holds b cost mark ⌝ }
-{
-    mark <= (b.tokens - cost) / b.burst
-}
-
-// The mark rises with the want, by a hair with the rank: the furthest over is cut first.
-pub fn mark_of(wants: f64, rank: f64) -> f64
-    ensures { λ r. ⌜ r ≡ flow.mark-of wants rank ⌝ }
-{
-    0.1 * (1.0 - 1.0 / (wants * (1.0 + rank * 0.000001)))
-}
-
-fn pick(holds: bool, yes: Verdict, no: Verdict) -> Verdict
-    ensures { λ r. ⌜ r ≡ flow.pick holds yes no ⌝ }
-{
-    if holds { yes } else { no }
-}
-
-// Within the level: credit is asked before tokens.
-fn within(credit: bool, tokens: bool) -> Verdict
-    ensures { λ r. ⌜ r ≡ flow.within credit tokens ⌝ }
-{
-    let asked = pick(tokens, Verdict::Admitted, Verdict::RelayRate);
-    pick(credit, asked, Verdict::OverShare)
-}
-
-// Above the level: credit, tokens and reserve must all hold.
-fn above(credit: bool, tokens: bool, reserve: bool) -> Verdict
-    ensures { λ r. ⌜ r ≡ flow.above credit tokens reserve ⌝ }
-{
-    let left = pick(reserve, Verdict::Admitted, Verdict::OverShare);
-    let paid = pick(tokens, left, Verdict::OverShare);
-    pick(credit, paid, Verdict::OverShare)
-}
-
-pub fn decided(want: f64, credit: bool, tokens: bool, reserve: bool) -> Verdict
-    ensures { λ r. ⌜ r ≡ flow.decided want credit tokens reserve ⌝ }
-{
-    if want <= 1.0 {
-        within(credit, tokens)
-    } else {
-        above(credit, tokens, reserve)
-    }
-}
-
 // ---- over the dimensions
-
-// How many times the level a unit wants, in the dimension where that is most; 0 at least.
-pub fn want(weight: f64, attempted: [f64; DIMS], cost: [f64; DIMS], level: [f64; DIMS]) -> f64
-    ensures { λ r. ⌜ r ≡ flow.want weight attempted cost level ⌝ }
-{
-    let mut times = 0.0;
-    let mut d = 0;
-    while d < DIMS {
-        times = ieee::max(times, want_of(weight, attempted[d], cost[d], level[d]));
-        d += 1;
-    }
-    times
-}
-
-// Whether the credit holds the cost in each dimension.
-pub fn covers(held: [f64; DIMS], cost: [f64; DIMS]) -> bool
-    ensures { λ r. ⌜ r ≡ flow.covers held cost ⌝ }
-{
-    let mut ok = true;
-    let mut d = 0;
-    while d < DIMS {
-        ok = both(ok, credit_holds(held[d], cost[d]));
-        d += 1;
-    }
-    ok
-}
 
 impl Use {
     // A unit new to the store.
@@ -425,103 +309,4 @@ pub fn returned_all(mut buckets: [Bucket; DIMS], cost: [f64; DIMS]) -> [Bucket; 
         d += 1;
     }
     buckets
-}
-
-// Whether the tokens hold the cost in each dimension.
-pub fn suffice(buckets: [Bucket; DIMS], cost: [f64; DIMS]) -> bool
-    ensures { λ r. ⌜ r ≡ flow.suffice buckets cost ⌝ }
-{
-    let mut ok = true;
-    let mut d = 0;
-    while d < DIMS {
-        let b = buckets[d];
-        ok = both(ok, tokens_hold(b, cost[d]));
-        d += 1;
-    }
-    ok
-}
-
-// Whether the reserve is left in each dimension.
-fn leaves(buckets: [Bucket; DIMS], cost: [f64; DIMS], mark: f64) -> bool
-    ensures { λ r. ⌜ r ≡ flow.leaves buckets cost mark ⌝ }
-{
-    let mut ok = true;
-    let mut d = 0;
-    while d < DIMS {
-        let b = buckets[d];
-        ok = both(ok, reserve_holds(b, cost[d], mark));
-        d += 1;
-    }
-    ok
-}
-
-// ---- a judgement on a record that was found or added
-
-pub struct Outcome {
-    pub verdict: Verdict,
-    pub buckets: [Bucket; DIMS],
-    pub used: Use,
-}
-
-fn is_admitted(verdict: Verdict) -> bool
-    ensures { λ r. ⌜ r ≡ flow.is-admitted verdict ⌝ }
-{
-    match verdict {
-        Verdict::Admitted => true,
-        Verdict::OverShare => false,
-        Verdict::RelayRate => false,
-    }
-}
-
-fn settled(verdict: Verdict, buckets: [Bucket; DIMS], used: Use, cost: [f64; DIMS]) -> Outcome
-    ensures { λ r. ⌜ r ≡ flow.settled verdict buckets used cost ⌝ }
-{
-    if is_admitted(verdict) {
-        Outcome {
-            verdict,
-            buckets: spent_all(buckets, cost),
-            used: used.charged(cost),
-        }
-    } else {
-        Outcome {
-            verdict,
-            buckets,
-            used,
-        }
-    }
-}
-
-fn weighed(wants: f64, rank: f64, buckets: [Bucket; DIMS], used: Use, cost: [f64; DIMS]) -> Outcome
-    ensures { λ r. ⌜ r ≡ flow.weighed wants rank buckets used cost ⌝ }
-{
-    let credit = used.credit;
-    let verdict = decided(
-        wants,
-        covers(credit, cost),
-        suffice(buckets, cost),
-        leaves(buckets, cost, mark_of(wants, rank)),
-    );
-    settled(verdict, buckets, used, cost)
-}
-
-pub fn judged(
-    buckets: [Bucket; DIMS],
-    used: Use,
-    now: u64,
-    elapsed: u64,
-    cost: [f64; DIMS],
-    fill: [f64; DIMS],
-    level: [f64; DIMS],
-    rank: f64,
-) -> Outcome
-    requires { ⌜ now ≤ 2 ^ 53 ⌝ }
-    requires { ⌜ elapsed ≤ 2 ^ 53 ⌝ }
-    ensures { λ r. ⌜ r ≡ flow.judged buckets used now elapsed cost fill level rank ⌝ }
-{
-    let full = refilled_all(buckets, elapsed);
-    let weight = weight_of(used.fresh, since(now, used.at_ms));
-    let next = used.credited(now, fill).fade_to(now).tried(cost);
-    let attempted = next.attempted;
-    let wants = want(weight, attempted, cost, level);
-    weighed(wants, rank, full, next, cost)
 }

@@ -18,7 +18,7 @@ use Rattle.label.specs.Label.{label}
 use Rattle.head.specs.declared.Shedder.{Shedder}
 use Rattle.head.specs.Questions.{is-unbounded}
 use Rattle.counted.specs.Counted.{counts-at}
-use Rattle.report.specs.Sources.{unit-at, first-after, named, better, reported}
+use Rattle.ranking.specs.Sources.{unit-at, first-after, named, reported}
 use Rattle.report.specs.Lines.{rate, ceiling, active, receiver-ceiling, over-share, relay-rate, source, space, line-feed, numbers, line, rates-line, cause-line, source-line, source-lines, head-lines, text}
 
 pub writes-append : (p : Page) (xs ys : List (List ℕ)) → writes p (xs ++ ys) ≡ writes (writes p xs) ys
@@ -35,15 +35,6 @@ numbers-next p xs i h = rw (add-one, drop-cons xs i 0)
 pub numbers-end : (p : Page) (xs : List ℕ) (i : ℕ) → length xs ≤ i → writes p (numbers (drop i xs)) ≡ write p line-feed
 unfolding writes numbers
 numbers-end p xs i h = rw (drop-of-length-le xs {i = i} h)
-
--- ---- one more source looked at
-pub first-none : (rows : List (List ℕ)) (n p : ℕ) → first-after rows n p 0 ≡ n
-unfolding first-after
-first-none rows n p = refl
-
-pub first-next : (rows : List (List ℕ)) (n p m : ℕ) → first-after rows n p (m + 1) ≡ better rows n p (first-after rows n p m) m
-unfolding first-after
-first-next rows n p m = rw add-one
 
 -- ---- the sources named from `last` on, k of them at most
 named-step : (rows : List (List ℕ)) (n k last : ℕ) → 0 < k

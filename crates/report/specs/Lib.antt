@@ -1,4 +1,2 @@
-pub mod Sources
 pub mod Lines
 pub mod Report
-pub mod Laws

@@ -9,7 +9,7 @@ use Rattle.flow.specs.Flow.{dims}
 use Rattle.head.specs.declared.Shedder.{Shedder}
 use Rattle.head.specs.Questions.{is-unbounded}
 use Rattle.counted.specs.Counted.{counts-at}
-use Rattle.report.specs.Sources.{label-at, reported}
+use Rattle.ranking.specs.Sources.{label-at, reported}
 
 -- ---- the words, in ASCII
 abbrev pub rate : List ℕ

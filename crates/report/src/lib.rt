@@ -1,6 +1,5 @@
 // The report: the Shedder's counts as text in a lent buffer.
 mod lines;
-mod sources;
 
 ghost use mathlib.Core.Path.{_≡_};
 ghost use lib.ListN.{length, take};

@@ -4,18 +4,17 @@ ghost use Prim.Native.Nat.{_<_, _≤_};
 ghost use lib.ListN.{length, take};
 ghost use Rattle.io.specs.Counts.{Counts};
 ghost use Rattle.text.specs.Page.{page, writes, joined};
-ghost use Rattle.report.specs.Sources as sources;
+ghost use Rattle.ranking.specs.Sources as sources;
 ghost use Rattle.report.specs.Lines as lines;
-use crate::sources::first_after;
-use crate::sources::unit_at;
 use flow::DIMS;
 use head::Shedder;
 use label::LABEL_MOST;
 use label::write_label;
+use ranking::SOURCES_REPORTED;
+use ranking::first_after;
+use ranking::unit_at;
 use text::put;
 
-// The sources that a report names at most.
-const SOURCES_REPORTED: usize = 16;
 // A number behind a space has at most 21 bytes.
 const NUMBER_MOST: usize = 21;
 // A text has at most so many bytes: the lines `rate` and `ceiling`, `active`, the causes, the sources; a word, its

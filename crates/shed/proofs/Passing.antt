@@ -4,8 +4,9 @@ use Prim.Native.Nat.{ℕ, _-_}
 use mathlib.Core.List.{List}
 use lib.Ieee.{Float}
 use Rattle.flow.specs.Flow as flow
+use Rattle.verdict.specs.Verdict as verdicts
 use Rattle.flow.specs.declared.Use.{Use}
-use Rattle.flow.specs.declared.Outcome.{Outcome}
+use Rattle.verdict.specs.declared.Outcome.{Outcome}
 use Rattle.sender.specs.declared.Unit.{Unit}
 use Rattle.sender.specs.declared.Name.{Name}
 use Rattle.sender.specs.Sender.{name-of, hash-of}
@@ -42,9 +43,9 @@ judged-is h m u n cost now p i1 u1 u2 s1 s2 x sh r o f eN eE eU eR eO eB eF =
 -- the parts of an outcome
 pub outcome-is : (f : Flow) (level : List Float) (u : Use) (rank : Float) (cost : List Float) (now : ℕ) (o : Outcome) (e : ℕ) (fill paid : List Float)
     → paid ≡ flow.numbers (f .rate) → fill ≡ flow.fills level paid → e ≡ now - f .«at_ms»
-    → o ≡ flow.judged (f .buckets) u now e cost fill level rank
+    → o ≡ verdicts.judged (f .buckets) u now e cost fill level rank
     → o ≡ outcome f level u rank cost now
 unfolding outcome
 outcome-is f level u rank cost now o e fill paid eP eF eE eO =
-    eO ∙ ap (λ (e : ℕ). flow.judged (f .buckets) u now e cost fill level rank) eE
-    ∙ ap (λ (fill : List Float). flow.judged (f .buckets) u now (now - f .«at_ms») cost fill level rank) (eF ∙ ap (flow.fills level) eP)
+    eO ∙ ap (λ (e : ℕ). verdicts.judged (f .buckets) u now e cost fill level rank) eE
+    ∙ ap (λ (fill : List Float). verdicts.judged (f .buckets) u now (now - f .«at_ms») cost fill level rank) (eF ∙ ap (flow.fills level) eP)

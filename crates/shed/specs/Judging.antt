@@ -7,11 +7,13 @@ use lib.ListN.{length}
 use lib.Ieee as Ieee
 use lib.Ieee.{Float, binary64}
 use Rattle.flow.specs.Flow as flow
-use Rattle.flow.specs.Flow.{at, upto, zeros, is-admitted}
+use Rattle.verdict.specs.Verdict as verdicts
+use Rattle.flow.specs.Flow.{at, upto, zeros}
+use Rattle.verdict.specs.Verdict.{is-admitted}
 use Rattle.flow.specs.declared.Use.{Use}
-use Rattle.flow.specs.declared.Outcome.{Outcome}
-use Rattle.flow.specs.declared.Verdict.{Verdict}
-use Rattle.flow.specs.declared.Verdict.the-variants as verdict
+use Rattle.verdict.specs.declared.Outcome.{Outcome}
+use Rattle.verdict.specs.declared.Verdict.{Verdict}
+use Rattle.verdict.specs.declared.Verdict.the-variants as verdict
 use Rattle.sender.specs.declared.Unit as unit
 use Rattle.sender.specs.declared.Unit.the-variants as units
 use Rattle.sender.specs.Sender as sender
@@ -39,7 +41,7 @@ rank-at hash i room = cond (ltb i room) (sender.rank-of-hash hash) (sender.rank 
 
 -- the verdict on a use, the buckets refilled since the clock before, with the level as it stands before this call's scan
 unfoldable pub outcome : Flow → List Float → Use → Float → List Float → ℕ → Outcome
-outcome f level u rank cost now = flow.judged (f .buckets) u now (now - f .«at_ms») cost (flow.fills level (flow.numbers (f .rate))) level rank
+outcome f level u rank cost now = verdicts.judged (f .buckets) u now (now - f .«at_ms») cost (flow.fills level (flow.numbers (f .rate))) level rank
 
 -- only an admission adds to it
 unfoldable pub admitted-then : Verdict → List Float → List Float → List Float

@@ -9,14 +9,14 @@ ghost use Rattle.head.specs.Answers as answers;
 ghost use Rattle.head.specs.Questions as asked;
 ghost use Rattle.shed.specs.Judging as judging;
 use flow::DIMS;
-use flow::Outcome;
 use flow::Use;
-use flow::Verdict;
 use head::Answer;
 use head::Flow;
 use head::Shedder;
 use sender::Name;
 use sender::Unit;
+use verdict::Outcome;
+use verdict::Verdict;
 
 // What a judgement answers, and the head after it.
 pub struct Judgement {
@@ -70,7 +70,7 @@ fn outcome(
     let buckets = f.buckets;
     let rate = f.rate;
     let fill = flow::fills(level, flow::numbers(rate));
-    flow::judged(
+    verdict::judged(
         buckets,
         used,
         now,

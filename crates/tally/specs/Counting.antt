@@ -2,9 +2,9 @@
 use Prim.Native.Nat.{ℕ, _+_, _^_, _%_}
 use mathlib.Core.List.{List}
 use lib.ListN.{getD, set}
-use Rattle.flow.specs.Flow.{is-admitted}
-use Rattle.flow.specs.declared.Verdict.{Verdict}
-use Rattle.flow.specs.declared.Verdict.the-variants as verdict
+use Rattle.verdict.specs.Verdict.{is-admitted}
+use Rattle.verdict.specs.declared.Verdict.{Verdict}
+use Rattle.verdict.specs.declared.Verdict.the-variants as verdict
 use Rattle.sender.specs.declared.Words.{Words}
 use Rattle.counted.specs.Counted as counts
 use Rattle.head.specs.declared.Shedder.{Shedder}

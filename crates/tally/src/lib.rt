@@ -2,17 +2,17 @@
 ghost use mathlib.Core.Path.{_≡_};
 ghost use Prim.Native.Nat.{_<_};
 ghost use lib.ListN.{length};
-ghost use Rattle.flow.specs.Flow as float;
+ghost use Rattle.verdict.specs.Verdict as verdicts;
 ghost use Rattle.tally.specs.Counting as counting;
 use flow::DIMS;
-use flow::Verdict;
 use head::CAUSES;
 use head::Shedder;
 use sender::Words;
+use verdict::Verdict;
 
 // Whether a verdict admits.
 pub fn is_admitted(verdict: Verdict) -> bool
-    ensures { λ r. ⌜ r ≡ float.is-admitted verdict ⌝ }
+    ensures { λ r. ⌜ r ≡ verdicts.is-admitted verdict ⌝ }
 {
     match verdict {
         Verdict::Admitted => true,

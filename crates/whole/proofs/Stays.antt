@@ -8,8 +8,9 @@ use lib.Dec.{eqb, ltb}
 use lib.ListN.{length, getD, set, length-set}
 use lib.Ieee.{Float}
 use borrow.Author.Tests.{ltb-true, ltb-false, eqb-true}
-use Rattle.flow.specs.Flow.{numbers, is-admitted}
-use Rattle.flow.specs.declared.Verdict.{Verdict}
+use Rattle.flow.specs.Flow.{numbers}
+use Rattle.verdict.specs.Verdict.{is-admitted}
+use Rattle.verdict.specs.declared.Verdict.{Verdict}
 use Rattle.sender.specs.declared.Unit.{Unit}
 use Rattle.sender.specs.declared.Words.{Words}
 use Rattle.sender.specs.Sender.{words-of, name-of, is-overflow}

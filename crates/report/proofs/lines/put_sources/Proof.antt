@@ -1,7 +1,7 @@
 -- `lines::put_sources` meets its contract: the loop has the sources after the last one still to write. Assumes nothing.
 use Rattle.report.proofs.Writing.{sources-next, sources-none, sources-end}
 use Rattle.report.specs.Lines.{source-lines}
-use Rattle.report.specs.Sources.{named, reported}
+use Rattle.ranking.specs.Sources.{named, reported}
 use Rattle.text.specs.Page.{page, writes}
 use lib.ListN.{length}
 use native.Mathlib.Omega.{arith}

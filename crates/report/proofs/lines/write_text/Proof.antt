@@ -3,7 +3,7 @@ use mathlib.Core.Path.{_≡_}
 use native.Mathlib.Omega.{arith}
 use lib.ListN.{length}
 use Prim.Native.Nat.{_+_, _*_}
-use Rattle.report.specs.Sources.{most-named}
+use Rattle.ranking.specs.Sources.{most-named}
 use Rattle.report.specs.Lines.{head-most}
 use Rattle.report.proofs.Writing.{text-put}
 use Rattle.report.proofs.Lengths.{text-short}
