@@ -1,57 +1,48 @@
-// Small lent memory, and the calls over it that the cases share.
+// The calls of a row of the table of steps, over the slices lent.
 use flow::DIMS;
+use head::Cause;
 use head::Shedder;
-use sender::Unit;
-use shed::Judgement;
+use trial::Trial;
+use tries::DONE;
+use tries::Tried;
 
-// Unit records and counted records.
-pub const UNITS: usize = 4;
-
-pub const COUNTED: usize = 3;
-
-// A head that is not whole, as one is before any start.
-pub fn unstarted() -> Shedder {
-    let t = trial::unstarted();
-    t.head
-}
-
-// A head started with one rate and no ceiling in every dimension.
-pub fn started(
-    hashes: &[u64; UNITS],
-    units: &[[u64; 7]; UNITS],
-    uses: &[[f64; 2 * DIMS]; UNITS],
-    counts: &mut [[u32; 768]; DIMS],
-    sums: &mut [[f64; 768]; DIMS],
-    counted: &[[u64; 8]; COUNTED],
-    rate: u64,
-) -> Shedder {
-    let s = head::start(
-        unstarted(),
-        hashes,
-        units,
-        uses,
-        counts,
-        sums,
-        counted,
-        [rate; DIMS],
-        [0; DIMS],
-    );
-    s.head
-}
-
-pub fn judged(
+fn start(
+    row: usize,
     head: Shedder,
-    hashes: &mut [u64; UNITS],
-    units: &mut [[u64; 7]; UNITS],
-    uses: &mut [[f64; 2 * DIMS]; UNITS],
+    hashes: &[u64],
+    units: &[[u64; 7]],
+    uses: &[[f64; 2 * DIMS]],
     counts: &mut [[u32; 768]; DIMS],
     sums: &mut [[f64; 768]; DIMS],
-    counted: &mut [[u64; 8]; COUNTED],
-    unit: Unit,
-    cost: u64,
-    stamp: u64,
-) -> Judgement {
-    shed::judge(
+    counted: &[[u64; 8]],
+) -> Tried {
+    let rate = tries::amounts(row);
+    let none = [0; DIMS];
+    let s = head::start(head, hashes, units, uses, counts, sums, counted, rate, none);
+    let answer = s.answer;
+    let now = s.head;
+    tries::after(tries::start_number(answer), now)
+}
+
+// A judgement, or a start.
+fn judge(
+    row: usize,
+    call: u64,
+    head: Shedder,
+    hashes: &mut [u64],
+    units: &mut [[u64; 7]],
+    uses: &mut [[f64; 2 * DIMS]],
+    counts: &mut [[u32; 768]; DIMS],
+    sums: &mut [[f64; 768]; DIMS],
+    counted: &mut [[u64; 8]],
+) -> Tried {
+    if call == 1 {
+        return start(row, head, hashes, units, uses, counts, sums, counted);
+    }
+    let who = tries::unit(row);
+    let cost = tries::amounts(row);
+    let stamp = tries::value(row, tries::STAMP);
+    let j = shed::judge(
         head,
         hashes,
         units,
@@ -59,42 +50,143 @@ pub fn judged(
         counts,
         sums,
         counted,
-        unit,
-        [cost; DIMS],
+        who,
+        cost,
         stamp,
-    )
+    );
+    let answer = j.answer;
+    let now = j.head;
+    tries::after(tries::judge_number(answer), now)
 }
 
-// The head after so many judgements of one unit, at no cost, at one stamp.
-pub fn judged_often(
+fn cut(
+    row: usize,
     head: Shedder,
-    hashes: &mut [u64; UNITS],
-    units: &mut [[u64; 7]; UNITS],
-    uses: &mut [[f64; 2 * DIMS]; UNITS],
+    hashes: &mut [u64],
+    units: &mut [[u64; 7]],
+    uses: &mut [[f64; 2 * DIMS]],
+    counted: &mut [[u64; 8]],
+) -> Tried {
+    let who = tries::unit(row);
+    let cost = tries::amounts(row);
+    let why = Cause::ReceiverCeiling;
+    let d = cut::cut(head, hashes, units, uses, counted, who, why, cost);
+    let answer = d.answer;
+    let now = d.head;
+    tries::after(tries::cut_number(answer), now)
+}
+
+// The calls of the report. The number of a report is told by the call beside it; a report that is refused has an empty
+// front part.
+fn report(
+    call: u64,
+    head: Shedder,
+    hashes: &[u64],
+    units: &[[u64; 7]],
+    uses: &[[f64; 2 * DIMS]],
+    counted: &[[u64; 8]],
+    out: &mut [u8],
+) -> u64 {
+    if call == 5 {
+        return tries::written_number(report::write_report(head, hashes, units, uses, counted, out));
+    }
+    let no = report::report_refusal(head, hashes, units, uses, counted, out);
+    if call == 6 {
+        return no;
+    }
+    let front = report::report(head, hashes, units, uses, counted, out);
+    if front.len() == 0 { no } else { DONE }
+}
+
+// No word of the histogram is 0.
+fn fill(counts: &mut [[u32; 768]; DIMS], sums: &mut [[f64; 768]; DIMS]) -> u64 {
+    let some = [4u32; 768];
+    *counts = [some; DIMS];
+    let sum = [0.5; 768];
+    *sums = [sum; DIMS];
+    DONE
+}
+
+// The lengths of the lines that question 8 refuses, which stand 24 bytes apart, and the first one's number in the table of
+// steps. The first two are given before any start; the fifth is empty, and the last is one byte longer than a line may be.
+const LENGTHS: [usize; 6] = [21, 1, 16, 22, 0, 201];
+
+const FIRST_LINE: u64 = 13;
+
+// A line of the trial's language, which is answered at the front of out.
+fn line(
+    n: u64,
+    head: Shedder,
+    hashes: &mut [u64],
+    units: &mut [[u64; 7]],
+    uses: &mut [[f64; 2 * DIMS]],
     counts: &mut [[u32; 768]; DIMS],
     sums: &mut [[f64; 768]; DIMS],
-    counted: &mut [[u64; 8]; COUNTED],
-    unit: Unit,
-    stamp: u64,
-    times: u64,
-) -> Shedder {
-    let mut h = head;
-    let mut left = times;
-    while left > 0 {
-        let j = judged(
-            h,
-            hashes,
-            units,
-            uses,
-            counts,
-            sums,
-            counted,
-            unit,
-            0,
-            stamp,
-        );
-        h = j.head;
-        left -= 1;
+    counted: &mut [[u64; 8]],
+    out: &mut [u8],
+) -> Tried {
+    let lines = b"\
+        J no-address 1 1 2000   \
+        P                       \
+        J no-address 1 1        \
+        J no-address 01 1 2000  \
+        PPPPPPPPPPPPPPPPPPPPPPPPPPPPPPPPPPPPPPPPPPPPPPPPPPPPPPPPPPPPPPPPPPPPPPPPPPP\
+        PPPPPPPPPPPPPPPPPPPPPPPPPPPPPPPPPPPPPPPPPPPPPPPPPPPPPPPPPPPPPPPPPPPPPPPPPPP\
+        PPPPPPPPPPPPPPPPPPPPPPPPPPPPPPPPPPPPPPPPPPPPPPPPPPPPPPPPPPPPPPPPPPPPPPPPPPP";
+    let k = (n % FIRST_LINE % 6) as usize;
+    let line = script::front(tries::rest(lines, 24 * k), LENGTHS[k]);
+    let is_started = 2 <= k;
+    let t = Trial {
+        head,
+        is_started,
+        at: 0,
+    };
+    let a = trial::answer(t, hashes, units, uses, counts, sums, counted, line, out);
+    tries::line(line, out, a.at);
+    let now = a.head;
+    Tried {
+        number: DONE,
+        head: now,
+        at: a.at,
+        unchanged: a.is_started == is_started,
     }
-    h
+}
+
+// A cut, a report or a reading.
+fn aside(
+    row: usize,
+    call: u64,
+    head: Shedder,
+    hashes: &mut [u64],
+    units: &mut [[u64; 7]],
+    uses: &mut [[f64; 2 * DIMS]],
+    counted: &mut [[u64; 8]],
+    out: &mut [u8],
+) -> Tried {
+    match call {
+        3 => cut(row, head, hashes, units, uses, counted),
+        4..=6 => tries::after(report(call, head, hashes, units, uses, counted, out), head),
+        _ => tries::after(tries::reading(call, head), head),
+    }
+}
+
+// The call of a row.
+pub fn answered(
+    row: usize,
+    head: Shedder,
+    hashes: &mut [u64],
+    units: &mut [[u64; 7]],
+    uses: &mut [[f64; 2 * DIMS]],
+    counts: &mut [[u32; 768]; DIMS],
+    sums: &mut [[f64; 768]; DIMS],
+    counted: &mut [[u64; 8]],
+    out: &mut [u8],
+) -> Tried {
+    let call = tries::letter(row, tries::CALL);
+    match call {
+        1..=2 => judge(row, call, head, hashes, units, uses, counts, sums, counted),
+        3..=11 => aside(row, call, head, hashes, units, uses, counted, out),
+        12 => tries::after(fill(counts, sums), head),
+        _ => line(call, head, hashes, units, uses, counts, sums, counted, out),
+    }
 }

@@ -1,19 +1,14 @@
 // Document 01's cases at the edges, run through the real functions: the cases that crate `cases` proves of the definitions, the
-// cases that are only run, and every refusal.
+// cases that are only run, and every refusal. Number 9 is not here: shed/proofs/Nine proves that no call is refused by it.
 mod calls;
-mod lines;
-mod proved;
-mod refusals;
-mod runs;
-mod same;
-mod says;
-mod tries;
+mod steps;
 
-use calls::COUNTED;
-use calls::UNITS;
 use flow::DIMS;
+use tries::COUNTED;
+use tries::UNITS;
 
 fn main() {
+    tries::run();
     let mut hashes = [0x0101010101010101u64; UNITS];
     let unit = [0x0202020202020202u64; 7];
     let mut units = [unit; UNITS];
@@ -25,28 +20,22 @@ fn main() {
     let mut sums = [sum; DIMS];
     let source = [0x0606060606060606u64; 8];
     let mut counted = [source; COUNTED];
-    proved::run(
-        &mut hashes,
-        &mut units,
-        &mut uses,
-        &mut counts,
-        &mut sums,
-        &mut counted,
-    );
-    runs::run(
-        &mut hashes,
-        &mut units,
-        &mut uses,
-        &mut counts,
-        &mut sums,
-        &mut counted,
-    );
-    refusals::run(
-        &mut hashes,
-        &mut units,
-        &mut uses,
-        &mut counts,
-        &mut sums,
-        &mut counted,
-    );
+    let none = trial::unstarted();
+    let mut head = none.head;
+    let mut i = 0;
+    while i < tries::STEPS {
+        let row = tries::row_of(i);
+        let t = steps::tried(
+            row,
+            tries::unfit(head, row),
+            &mut hashes,
+            &mut units,
+            &mut uses,
+            &mut counts,
+            &mut sums,
+            &mut counted,
+        );
+        head = tries::step(row, head, t);
+        i += 1;
+    }
 }

@@ -1,14 +1,15 @@
 // Standard input as a list of calls: each line of the trial's language as rows of `replay`.
-ghost use mathlib.Core.Path.{_≡_};
-ghost use lib.ListN.{take};
 use flow::DIMS;
 use libc::STDIN_FILENO;
 use script::Amounts;
 use script::CutLine;
+use script::FEED;
 use script::JudgeLine;
+use script::LINE;
 use script::LINE_MOST;
 use script::Line;
 use script::StartLine;
+use script::front;
 use sender::Unit;
 
 // The rows that a list may have.
@@ -16,11 +17,6 @@ pub const ROWS: usize = 4096;
 
 // The bytes read at once.
 const BLOCK: usize = 65536;
-
-// One byte more of a line than a line may have is kept: enough to refuse it.
-const LINE: usize = LINE_MOST + 1;
-
-const FEED: u8 = 10;
 
 // The numbers of `replay` for the calls that a line gives.
 const JUDGE: u64 = 0;
@@ -63,16 +59,6 @@ fn none() -> List {
         len: 0,
         is_over: false,
     }
-}
-
-// The first n bytes of s; all of s where it has fewer.
-pub fn front(s: &[u8], n: usize) -> &[u8]
-    ensures { λ r. ⌜ now r ≡ take n (now (s .entry)) ⌝ }
-{
-    if s.len() < n {
-        return s;
-    }
-    &s[..n]
 }
 
 fn row_of(which: u64, unit: Unit, last: u64, cost: Amounts) -> [u64; 7 + DIMS] {
@@ -179,16 +165,6 @@ fn ended(list: List, rows: &mut [[u64; 7 + DIMS]; ROWS], line: &[u8; LINE]) -> L
     }
 }
 
-// A byte more of the line.
-fn kept(mut l: List, line: &mut [u8; LINE], x: u8) -> List {
-    let len = l.len;
-    if len < LINE {
-        line[len] = x;
-        l.len = len + 1;
-    }
-    l
-}
-
 // The lines that end in a block of the input; what stands behind the last is kept.
 fn block(
     list: List,
@@ -203,7 +179,7 @@ fn block(
         if x == FEED {
             l = ended(l, rows, line);
         } else {
-            l = kept(l, line, x);
+            l.len = script::keep(line, l.len, x);
         }
         i += 1;
     }

@@ -1,11 +1,16 @@
 // The trial's language: a line of it to a call, and an answer to text.
 mod answers;
 mod fields;
+mod lines;
 
 pub use answers::put_answer;
 pub use answers::put_begin;
 pub use answers::put_done;
 pub use answers::put_refused;
+pub use lines::FEED;
+pub use lines::LINE;
+pub use lines::front;
+pub use lines::keep;
 ghost use mathlib.Core.Path.{_≡_};
 ghost use Prim.Native.Nat.{_<_};
 ghost use Rattle.script.specs.Script as script;

@@ -1,10 +1,10 @@
 // Standard input cut into lines, and the answers written to standard output.
-ghost use mathlib.Core.Path.{_≡_};
-ghost use lib.ListN.{take};
 use flow::DIMS;
 use libc::STDIN_FILENO;
 use libc::STDOUT_FILENO;
-use script::LINE_MOST;
+use script::FEED;
+use script::LINE;
+use script::front;
 use trial::COUNTED;
 use trial::Trial;
 use trial::UNITS;
@@ -12,29 +12,14 @@ use trial::UNITS;
 // The bytes read at once, and those kept before they are written.
 const BLOCK: usize = 65536;
 
-// One byte more of a line than a line may have is kept: enough to refuse it.
-const LINE: usize = LINE_MOST + 1;
-
 // From here on the page is written before the next answer: what is left of it holds any answer.
 const FULL: usize = 61336;
-
-const FEED: u8 = 10;
 
 // The trial, how many bytes of the line that is being read are kept, and whether the input has ended.
 struct Served {
     trial: Trial,
     len: usize,
     is_over: bool,
-}
-
-// The first n bytes of s; all of s where it has fewer.
-fn front(s: &[u8], n: usize) -> &[u8]
-    ensures { λ r. ⌜ now r ≡ take n (now (s .entry)) ⌝ }
-{
-    if s.len() < n {
-        return s;
-    }
-    &s[..n]
 }
 
 fn flushed(mut t: Trial, page: &[u8]) -> Trial {
@@ -69,16 +54,6 @@ fn ended(
     }
 }
 
-// A byte more of the line.
-fn kept(mut s: Served, line: &mut [u8; LINE], x: u8) -> Served {
-    let len = s.len;
-    if len < LINE {
-        line[len] = x;
-        s.len = len + 1;
-    }
-    s
-}
-
 // Answers each line that ends in a block of the input, and keeps what stands behind the last.
 fn block(
     served: Served,
@@ -99,7 +74,7 @@ fn block(
         if x == FEED {
             s = ended(s, hashes, units, uses, counts, sums, counted, line, page);
         } else {
-            s = kept(s, line, x);
+            s.len = script::keep(line, s.len, x);
         }
         i += 1;
     }
