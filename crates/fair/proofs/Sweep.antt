@@ -11,7 +11,7 @@ use Rattle.flow.specs.Flow.{nothing}
 use lib.ListN.{length, getD, set, length-set, replicate}
 use lib.Seq.{getD-set-same}
 use borrow.Author.Tests.{ltb-true, ltb-false}
-use Rattle.store.specs.Store.{Rows, rows, Kept, kept, freed, moved, is-stale, table-at, stamp-at, words-at, use-at, retained, retain-one, either}
+use Rattle.store.specs.Store.{Rows, rows, Kept, kept, freed, moved, is-stale, in-table, table-at, stamp-at, words-at, use-at, retained, retain-one, either}
 use Rattle.store.proofs.Places.{Same, same-self, same-join, freed-other, moved-other}
 use Rattle.fair.proofs.View as view
 
@@ -74,7 +74,7 @@ module _ (room : ℕ) where
   record-same m i m' j s = simp (s .0, s .1, s .2)
 
   stale-at : (m : Rows) (t a i : ℕ) → is-stale (m .hashes) (m .units) t a i ≡ stale t a (record-at m i)
-  unfolding is-stale table-at stamp-at view.record-at words-at use-at
+  unfolding is-stale in-table table-at stamp-at view.record-at words-at use-at
   stale-at m t a i = refl
 
   pub listed-same : (m m' : Rows) (n : ℕ) → ((j : ℕ) → j < n → record-at m j ≡ record-at m' j) → listed m n ≡ listed m' n

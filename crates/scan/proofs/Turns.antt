@@ -32,7 +32,7 @@ walk-next m table t i g = rw add-one
 
 -- records that are not of the table add nothing
 walk-off : (m : Rows) (table t i : ℕ) (g : Hist) → in-table (m .hashes) table i ≡ false → walk-one m table t i g ≡ g
-unfolding walk-one in-table
+unfolding walk-one
 walk-off m table t i g e = rw e
 
 pub walk-past : (m : Rows) (table t i j : ℕ) (g : Hist) → i ≤ j → None (in-table (m .hashes) table) i j → walk m table t j g ≡ walk m table t i g
@@ -46,7 +46,7 @@ walk-past m table t i j g h n = ap (λ (k : ℕ). walk m table t k g) (sym (add-
 
 -- rows that hold the same at a place, or before n, are walked alike there
 one-same : (m m' : Rows) (table t i : ℕ) (g : Hist) → Same m i m' i → walk-one m table t i g ≡ walk-one m' table t i g
-unfolding Same walk-one table-at use-at
+unfolding Same walk-one in-table table-at use-at
 one-same m m' table t i g s = simp (s .0, s .1, s .2)
 
 pub walk-same : (m m' : Rows) (table t n : ℕ) (g : Hist) → ((i : ℕ) → i < n → Same m i m' i) → walk m table t n g ≡ walk m' table t n g

@@ -119,7 +119,7 @@ since now at = now - at
 
 -- of the table, and more than 8,000 milliseconds old
 unfoldable pub is-stale : List ℕ → List (List ℕ) → ℕ → ℕ → ℕ → Bool
-is-stale hashes units table now i = cond (eqb (table-at hashes i) table) (ltb 8000 (since now (stamp-at units i))) false
+is-stale hashes units table now i = cond (in-table hashes table i) (ltb 8000 (since now (stamp-at units i))) false
 
 -- a freed place is zero bits
 unfoldable pub freed : Rows → ℕ → Rows

@@ -4,7 +4,7 @@ use mathlib.Core.Logic.{inl, inr}
 use mathlib.Core.Bool.{Bool, true, _&&_}
 use mathlib.Core.List.{List, [], _∷_}
 use Prim.Native.Nat.{ℕ, zero, suc, _+_, _-_, _^_, _≤_, _<_}
-use native.Mathlib.Nat.{le-trans, lt-of-le-of-lt, le-of-suc-le-suc, not-suc-le-zero, eq-or-lt-of-le, pow-le-pow-left, pow-lt-pow-left, pow-le-pow-right}
+use native.Mathlib.Nat.{le-trans, lt-of-le-of-lt, le-of-suc-le-suc, not-suc-le-zero, eq-or-lt-of-le, pow-le-pow-left, pow-lt-pow-left}
 use native.Mathlib.Omega.{arith}
 use native.Mathlib.Decide.{decLe}
 use lib.Dec.{T, leb, ltb, leb→le, ltb→lt}
@@ -70,40 +70,30 @@ under-last : (s : ℕ) → s < 2 ^ 53 → Under 16 s
 unfolding Under
 under-last s h = pow-lt-pow-left h (λ (e : 16 ≡ 0). omega arith)
 
--- not both: j is not before k
-from-not-under : (j k s : ℕ) → k ≤ j → From j s → Under k s → ⊥
-unfolding From Under
-from-not-under j k s h f u =
-    let p : 2 ^ (832 + k) ≤ 2 ^ (832 + j) = pow-le-pow-right (omega arith) (omega arith) in
-    absurd (omega (arith, f, u, p))
-
--- ---- a count of the entries up to s: low of those before j, the first aside
-pub record Counted (s low j : ℕ) : Type 0 where
-  pub below : low < j
+-- ---- of the entries before j, the last one up to s is that of `part`
+pub record Reached (s part j : ℕ) : Type 0 where
+  pub below : part < j
   pub most : j ≤ 16
-  pub from : From low s
-  pub under : low + 1 < j → Under (low + 1) s
+  pub from : From part s
+  pub under : part + 1 < j → Under (part + 1) s
 
-module _ (s low j : ℕ) (c : Counted s low j) (h : j < 16) where
-  pub counted-one : getD table j 0 ≤ s → Counted s (low + 1) (j + 1)
-  counted-one l =
-      let f : From j s = from-at j s h l in
-      let e : low + 1 ≡ j = elim (decLe j (low + 1)) [ yes a ↦ omega (arith, c .below) | no a ↦ absurd (from-not-under j (low + 1) s (omega arith) f (c .under (omega arith))) ] in
-      record { below = omega (arith, c .below); most = omega arith; from = rw e f; under = λ u. absurd (omega arith) }
+module _ (s part j : ℕ) (c : Reached s part j) (h : j < 16) where
+  pub reached-next : getD table j 0 ≤ s → Reached s j (j + 1)
+  reached-next l = record { below = omega arith; most = omega arith; from = from-at j s h l; under = λ u. absurd (omega arith) }
 
-  pub counted-none : s < getD table j 0 → Counted s low (j + 1)
-  counted-none l =
+  pub reached-still : s < getD table j 0 → Reached s part (j + 1)
+  reached-still l =
       record {
         below = omega (arith, c .below);
         most = omega arith;
         from = c .from;
-        under = λ u. elim (decLe j (low + 1)) [ yes a ↦ (let e : low + 1 ≡ j = omega (arith, c .below) in rw e (under-at j s h l)) | no a ↦ c .under (omega arith) ];
+        under = λ u. elim (decLe j (part + 1)) [ yes a ↦ (let e : part + 1 ≡ j = omega (arith, c .below) in rw e (under-at j s h l)) | no a ↦ c .under (omega arith) ];
       }
 
-pub ended : (s low j : ℕ) → Counted s low j → 16 ≤ j → s < 2 ^ 53 → Sixteenth s low
-ended s low j c h u =
+pub ended : (s part j : ℕ) → Reached s part j → 16 ≤ j → s < 2 ^ 53 → Sixteenth s part
+ended s part j c h u =
     record {
       within = omega (arith, c .below, c .most);
       from = c .from;
-      under = elim (decLe 15 low) [ yes a ↦ (let e : low + 1 ≡ 16 = omega (arith, c .below, c .most) in rw e (under-last s u)) | no a ↦ c .under (omega arith) ];
+      under = elim (decLe 15 part) [ yes a ↦ (let e : part + 1 ≡ 16 = omega (arith, c .below, c .most) in rw e (under-last s u)) | no a ↦ c .under (omega arith) ];
     }

@@ -34,23 +34,23 @@ const LEAST: [u64; 16] = [
     0x1ea4afa2a490da,
 ];
 
-// The part of its octave that a significand s stands in, of sixteen: the largest j with 2^j ≤ (s / 2^52)^16. It is how many
-// of the fifteen above the first are reached: counting them all takes no jump that depends on s. The table is read once:
-// a constant array is stored to the stack where it is named.
+// The part of its octave that a significand s stands in, of sixteen: the largest j with 2^j ≤ (s / 2^52)^16. All fifteen above
+// the first are compared, so that no jump depends on s. The table is named once: a constant array is stored to the stack
+// where it is named.
 fn sixteenth(s: u64) -> usize
     requires { ⌜ (0x10000000000000 ≤ s) × (s < 0x20000000000000) ⌝ }
     ensures { λ r. ⌜ bucket.Sixteenth s r ⌝ }
 {
     let least = LEAST;
-    let mut low = 0;
+    let mut part = 0;
     let mut j = 1;
     while j < BUCKETS_PER_OCTAVE {
         if least[j] <= s {
-            low += 1;
+            part = j;
         }
         j += 1;
     }
-    low
+    part
 }
 
 // The bucket of a want, by its exponent and its significand. It takes no logarithm, whose last bits Rust leaves open.

@@ -1,5 +1,4 @@
 use Rattle.scan.specs.Walking.{walk-one}
-use Rattle.store.specs.Store.{in-table}
 use mathlib.Core.Path.{sym}
 use borrow.Author.Needs.{needs}
 use Rattle.scan.proofs.walk_one.Statement.{statement}
@@ -12,7 +11,7 @@ walk-use-requires : tie.Need-walk-use-requires
 walk-use-requires c κs = search needs
 
 returns : tie.Need-returns
-unfolding walk-one in-table
+unfolding walk-one
 returns c = simp (c .before .before .before .before .before .pre .1 .1, sym (c .before .use-at .ensures)) (c .walk-use .ensures)
 
 pub walk-one-spec : {M : Type 1} → statement M
