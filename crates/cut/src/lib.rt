@@ -162,7 +162,7 @@ pub fn cut(
     let rate = f.rate;
     if hands_back(rate, cause) {
         let name = sender::name_of(unit);
-        let i = store::find(hashes, units, head.tracked, name);
+        let i = search::find(hashes, units, head.tracked, name);
         if entry::is_misplaced(hashes, units, head.tracked, name, i) {
             return Cutting {
                 answer: Done::Refused(9),

@@ -18,7 +18,7 @@ pub fn is_misplaced(hashes: &[u64], units: &[[u64; 7]], n: usize, name: Name, i:
     ensures { λ r. ⌜ r ≡ entering.is-misplaced (now (hashes .entry)) (now (units .entry)) n name ⌝ }
 {
     if i < n {
-        if store::is_at(hashes, units, i, name) {
+        if search::is_at(hashes, units, i, name) {
             return false;
         }
         return true;

@@ -21,7 +21,7 @@ fn uses_own(head: Shedder, hashes: &[u64], units: &[[u64; 7]], unit: Unit) -> bo
         return false;
     }
     let name = sender::name_of(unit);
-    let i = store::find(hashes, units, head.tracked, name);
+    let i = search::find(hashes, units, head.tracked, name);
     i < head.tracked
 }
 

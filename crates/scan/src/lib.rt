@@ -86,13 +86,13 @@ fn walk_to_stale(
     ensures { λ r. ⌜ store.None (store.is-stale (now (hashes .entry)) (now (units .entry)) table «at_ms») 0 r ⌝ }
     ensures { λ r. ⌜ (wants.hist (now (counts .exit)) (now (sums .exit))) ≡ walking.walk (store.rows (now (hashes .entry)) (now (units .entry)) (now (uses .entry))) table «at_ms» r (wants.hist (now (counts .entry)) (now (sums .entry))) ⌝ }
 {
-    let mut i = store::next_in(hashes, 0, n, table);
+    let mut i = search::next_in(hashes, 0, n, table);
     while i < n {
-        if store::is_stale(hashes, units, i, table, at_ms) {
+        if retain::is_stale(hashes, units, i, table, at_ms) {
             return i;
         }
         walk_one(hashes, units, uses, counts, sums, i, table, at_ms);
-        i = store::next_in(hashes, i + 1, n, table);
+        i = search::next_in(hashes, i + 1, n, table);
     }
     i
 }
@@ -115,10 +115,10 @@ fn walk(
     requires { ⌜ n ≤ length (now uses) ⌝ }
     ensures { λ r. ⌜ ((g : wants.Hist) → wants.hist (now (counts .entry)) (now (sums .entry)) ≡ walking.walk (store.rows (now (hashes .entry)) (now (units .entry)) (now (uses .entry))) table «at_ms» from g → wants.hist (now (counts .exit)) (now (sums .exit)) ≡ walking.walk (store.rows (now (hashes .entry)) (now (units .entry)) (now (uses .entry))) table «at_ms» n g) ⌝ }
 {
-    let mut i = store::next_in(hashes, from, n, table);
+    let mut i = search::next_in(hashes, from, n, table);
     while i < n {
         walk_one(hashes, units, uses, counts, sums, i, table, at_ms);
-        i = store::next_in(hashes, i + 1, n, table);
+        i = search::next_in(hashes, i + 1, n, table);
     }
 }
 
@@ -160,7 +160,7 @@ fn swept(
 {
     walk_overflow(counts, sums, overflow, table, at_ms);
     let i = walk_to_stale(hashes, units, uses, counts, sums, tracked, table, at_ms);
-    let n = store::retain(hashes, units, uses, i, tracked, table, at_ms);
+    let n = retain::retain(hashes, units, uses, i, tracked, table, at_ms);
     walk(hashes, units, uses, counts, sums, i, n, table, at_ms);
     n
 }

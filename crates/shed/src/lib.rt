@@ -266,7 +266,7 @@ pub fn judge(
         };
     }
     let name = sender::name_of(unit);
-    let i = store::find(hashes, units, head.tracked, name);
+    let i = search::find(hashes, units, head.tracked, name);
     if entry::is_misplaced(hashes, units, head.tracked, name, i) {
         return Judgement {
             answer: Answer::Refused(9),

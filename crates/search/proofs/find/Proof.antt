@@ -1,0 +1,57 @@
+-- `search::find` meets its contract. Assumes nothing.
+use Prim.Native.Nat.{_≤_, _-_}
+use borrow.Author.Needs.{needs}
+use lib.ListN.{length}
+use mathlib.Core.Path.{_≡_, sym, _∙_}
+use native.Mathlib.Omega.{arith}
+use Rattle.store.specs.Store.{first, is-at, find}
+use Rattle.store.proofs.Steps.{first-none, first-past, no-hash, first-next, first-found}
+use Rattle.search.proofs.find.Statement.{statement}
+use Rattle.search.proofs.find.Tie as tie
+
+abbrev Inv-loop : tie.InvT-loop
+Inv-loop hashes units n w i₀ i = (i ≤ n) × (n ≤ length hashes) × (n ≤ length units) × (first (is-at hashes units w) i ≡ i)
+
+abbrev μ-loop : tie.MeasureT-loop
+μ-loop hashes units n w i₀ i = n - i
+
+skip-to-hash-requires : tie.Need-skip-to-hash-requires Inv-loop μ-loop
+skip-to-hash-requires c κs = search needs
+
+loop-holds : tie.Need-loop-holds Inv-loop μ-loop
+loop-holds c = (search needs, search needs, search needs, first-past _ _ _ _ (no-hash _ _ _) (search needs) (c .skip-to-hash .ensures .1) (first-none _))
+
+is-at-requires : tie.Need-is-at-requires Inv-loop μ-loop
+is-at-requires c κs = search needs
+
+returns : tie.Need-returns Inv-loop μ-loop
+unfolding find
+returns c = sym (first-found _ _ _ (c .before .before .loop-test .taken) (c .before .before .before .loop .inv .3) (sym (c .before .is-at .ensures) ∙ c .if1 .taken))
+
+add-i : tie.Need-add-i Inv-loop μ-loop
+add-i c = search needs
+
+loop-less : tie.Need-loop-less Inv-loop μ-loop
+loop-less c = search needs
+
+loop-again : tie.Need-loop-again Inv-loop μ-loop
+loop-again c = (search needs, search needs, search needs, first-next _ _ (c .before .before .before .loop .inv .3) (sym (c .before .is-at .ensures) ∙ c .if1 .left))
+
+returns-2 : tie.Need-returns-2 Inv-loop μ-loop
+unfolding find
+returns-2 c = let e : c .before .loop .i ≡ c .before .before .before .before .args .n = omega arith in sym (rw e at (c .before .loop .inv .3))
+
+pub find-spec : {M : Type 1} → statement M
+find-spec =
+    tie.close
+    (tie.spec
+    Inv-loop
+    μ-loop
+    skip-to-hash-requires
+    loop-holds
+    is-at-requires
+    returns
+    add-i
+    loop-less
+    loop-again
+    returns-2)
