@@ -17,7 +17,7 @@ use Rattle.head.specs.Questions.{head-whole, memory-whole, costs-held, cut-aske
 use Rattle.head.proofs.Asked.{cut-ready}
 use Rattle.report.specs.declared.Written.{Written}
 use Rattle.report.specs.declared.Written.the-variants.{Bytes, Refused}
-use Rattle.report.specs.Lines.{text}
+use Rattle.lines.specs.Lines.{text}
 use Rattle.report.specs.Report.{number, bytes, report-asked, choose, answer, front, Ends, ends, report}
 
 -- what questions 3 and 4 show: the sources counted are rows of the memory lent

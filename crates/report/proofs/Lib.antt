@@ -1,3 +1,1 @@
-pub mod Lengths
-pub mod Writing
 pub mod Asking

@@ -8,7 +8,7 @@ use Rattle.head.specs.declared.Shedder.{Shedder}
 use Rattle.head.specs.Questions.{head-whole, memory-whole}
 use Rattle.report.specs.declared.Written.{Written}
 use Rattle.report.specs.declared.Written.the-variants.{Bytes, Refused}
-use Rattle.report.specs.Lines.{text}
+use Rattle.lines.specs.Lines.{text}
 
 -- ---- an answer: document 01's number, 0 where the text was written, and the bytes written
 abbrev pub number : Written → ℕ

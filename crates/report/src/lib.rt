@@ -1,6 +1,4 @@
 // The report: the Shedder's counts as text in a lent buffer.
-mod lines;
-
 ghost use mathlib.Core.Path.{_≡_};
 ghost use lib.ListN.{length, take};
 ghost use Rattle.io.specs.Counts.{Counts};

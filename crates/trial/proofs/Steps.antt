@@ -17,7 +17,7 @@ use Rattle.cut.specs.declared.Cutting.{Cutting}
 use Rattle.shed.specs.Judging as judging
 use Rattle.shed.specs.Judging.{Memory, memory, Judged}
 use Rattle.cut.specs.Cutting as cutting
-use Rattle.report.specs.Lines.{text}
+use Rattle.lines.specs.Lines.{text}
 use Rattle.report.specs.Report.{report-asked, front, choose}
 use Rattle.script.specs.declared.StartLine.{StartLine}
 use Rattle.script.specs.declared.JudgeLine.{JudgeLine}

@@ -12,7 +12,7 @@ use Rattle.head.specs.Start as starts
 use Rattle.shed.specs.Judging as judging
 use Rattle.shed.specs.Judging.{Memory, memory, Judged}
 use Rattle.cut.specs.Cutting as cutting
-use Rattle.report.specs.Lines.{text}
+use Rattle.lines.specs.Lines.{text}
 use Rattle.report.specs.Report.{report-asked}
 use Rattle.script.specs.declared.Amounts.{Amounts}
 use Rattle.script.specs.declared.StartLine.{StartLine}

@@ -1,10 +1,10 @@
 -- `lines::put_rates` meets its contract: `none`, or a line of numbers. Assumes nothing.
-use Rattle.report.specs.Lines.{line-feed, none, space, rates-line}
+use Rattle.lines.specs.Lines.{line-feed, none, space, rates-line}
 use Rattle.text.specs.Page.{Page, write, writes}
 use mathlib.Core.Path.{ap, _∙_}
 use borrow.Author.Needs.{needs}
-use Rattle.report.proofs.lines.put_rates.Statement.{statement}
-use Rattle.report.proofs.lines.put_rates.Tie as tie
+use Rattle.lines.proofs.put_rates.Statement.{statement}
+use Rattle.lines.proofs.put_rates.Tie as tie
 
 put-requires : tie.Need-put-requires
 put-requires c κs = search needs

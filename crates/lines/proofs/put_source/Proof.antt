@@ -1,8 +1,8 @@
 -- `lines::put_source` meets its contract: a word, a label, three numbers. Assumes nothing.
-use Rattle.report.proofs.Writing.{source-put}
+use Rattle.lines.proofs.Writing.{source-put}
 use borrow.Author.Needs.{needs}
-use Rattle.report.proofs.lines.put_source.Statement.{statement}
-use Rattle.report.proofs.lines.put_source.Tie as tie
+use Rattle.lines.proofs.put_source.Statement.{statement}
+use Rattle.lines.proofs.put_source.Tie as tie
 
 counts-at-requires : tie.Need-counts-at-requires
 counts-at-requires c κs = search needs

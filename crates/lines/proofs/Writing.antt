@@ -19,7 +19,7 @@ use Rattle.head.specs.declared.Shedder.{Shedder}
 use Rattle.head.specs.Questions.{is-unbounded}
 use Rattle.counted.specs.Counted.{counts-at}
 use Rattle.ranking.specs.Sources.{unit-at, first-after, named, reported}
-use Rattle.report.specs.Lines.{rate, ceiling, active, receiver-ceiling, over-share, relay-rate, source, space, line-feed, numbers, line, rates-line, cause-line, source-line, source-lines, head-lines, text}
+use Rattle.lines.specs.Lines.{rate, ceiling, active, receiver-ceiling, over-share, relay-rate, source, space, line-feed, numbers, line, rates-line, cause-line, source-line, source-lines, head-lines, text}
 
 pub writes-append : (p : Page) (xs ys : List (List ℕ)) → writes p (xs ++ ys) ≡ writes (writes p xs) ys
 unfolding writes

@@ -1,8 +1,8 @@
 -- `lines::put_cause` meets its contract: a line of two numbers. Assumes nothing.
-use Rattle.report.specs.Lines.{cause-line}
+use Rattle.lines.specs.Lines.{cause-line}
 use borrow.Author.Needs.{needs}
-use Rattle.report.proofs.lines.put_cause.Statement.{statement}
-use Rattle.report.proofs.lines.put_cause.Tie as tie
+use Rattle.lines.proofs.put_cause.Statement.{statement}
+use Rattle.lines.proofs.put_cause.Tie as tie
 
 mul-t9 : tie.Need-mul-t9
 mul-t9 c = search needs

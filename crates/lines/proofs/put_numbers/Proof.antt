@@ -1,14 +1,14 @@
 -- `lines::put_numbers` meets its contract: the loop has the numbers from the i-th on still to write. Assumes nothing.
-use Rattle.report.proofs.Writing.{numbers-next, numbers-end}
-use Rattle.report.specs.Lines.{numbers}
+use Rattle.lines.proofs.Writing.{numbers-next, numbers-end}
+use Rattle.lines.specs.Lines.{numbers}
 use Rattle.text.specs.Number.{decimal}
 use Rattle.text.specs.Page.{Page, page, write, writes}
 use lib.ListN.{length, drop, getD}
 use Prim.Native.Nat.{_≤_, _-_, _+_}
 use borrow.Author.Needs.{needs}
 use mathlib.Core.Path.{_≡_, refl, sym, ap, _∙_}
-use Rattle.report.proofs.lines.put_numbers.Statement.{statement}
-use Rattle.report.proofs.lines.put_numbers.Tie as tie
+use Rattle.lines.proofs.put_numbers.Statement.{statement}
+use Rattle.lines.proofs.put_numbers.Tie as tie
 
 abbrev Inv-loop : tie.InvT-loop
 Inv-loop out₀ at xs end₀ i₀ out end i = (i ≤ length xs) × (length out ≡ length out₀) × (writes (page out₀ at) (numbers xs) ≡ writes (page out end) (numbers (drop i xs)))

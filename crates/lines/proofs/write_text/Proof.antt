@@ -4,12 +4,12 @@ use native.Mathlib.Omega.{arith}
 use lib.ListN.{length}
 use Prim.Native.Nat.{_+_, _*_}
 use Rattle.ranking.specs.Sources.{most-named}
-use Rattle.report.specs.Lines.{head-most}
-use Rattle.report.proofs.Writing.{text-put}
-use Rattle.report.proofs.Lengths.{text-short}
+use Rattle.lines.specs.Lines.{head-most}
+use Rattle.lines.proofs.Writing.{text-put}
+use Rattle.lines.proofs.Lengths.{text-short}
 use borrow.Author.Needs.{needs}
-use Rattle.report.proofs.lines.write_text.Statement.{statement}
-use Rattle.report.proofs.lines.write_text.Tie as tie
+use Rattle.lines.proofs.write_text.Statement.{statement}
+use Rattle.lines.proofs.write_text.Tie as tie
 
 put-head-requires : tie.Need-put-head-requires
 put-head-requires c κs = search needs

@@ -1,10 +1,10 @@
 -- `lines::put_line` meets its contract: a word, then its numbers. Assumes nothing.
-use Rattle.report.specs.Lines.{line, numbers}
+use Rattle.lines.specs.Lines.{line, numbers}
 use Rattle.text.specs.Page.{Page, writes}
 use mathlib.Core.Path.{ap, _∙_}
 use borrow.Author.Needs.{needs}
-use Rattle.report.proofs.lines.put_line.Statement.{statement}
-use Rattle.report.proofs.lines.put_line.Tie as tie
+use Rattle.lines.proofs.put_line.Statement.{statement}
+use Rattle.lines.proofs.put_line.Tie as tie
 
 put-requires : tie.Need-put-requires
 put-requires c κs = search needs

@@ -20,7 +20,7 @@ use Rattle.head.specs.declared.Shedder.{Shedder}
 use Rattle.head.specs.Questions.{is-unbounded}
 use Rattle.counted.specs.Counted.{counts-at}
 use Rattle.ranking.specs.Sources.{first-after, named, label-at, unit-at, most-named, reported}
-use Rattle.report.specs.Lines.{rate, ceiling, active, receiver-ceiling, over-share, relay-rate, numbers, line, rates-line, cause-line, source-line, source-lines, head-lines, head-most, text}
+use Rattle.lines.specs.Lines.{rate, ceiling, active, receiver-ceiling, over-share, relay-rate, numbers, line, rates-line, cause-line, source-line, source-lines, head-lines, head-most, text}
 
 joined-append : (xs ys : List (List ℕ)) → length (joined (xs ++ ys)) ≡ length (joined xs) + length (joined ys)
 unfolding joined

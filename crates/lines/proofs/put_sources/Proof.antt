@@ -1,6 +1,6 @@
 -- `lines::put_sources` meets its contract: the loop has the sources after the last one still to write. Assumes nothing.
-use Rattle.report.proofs.Writing.{sources-next, sources-none, sources-end}
-use Rattle.report.specs.Lines.{source-lines}
+use Rattle.lines.proofs.Writing.{sources-next, sources-none, sources-end}
+use Rattle.lines.specs.Lines.{source-lines}
 use Rattle.ranking.specs.Sources.{named, reported}
 use Rattle.text.specs.Page.{page, writes}
 use lib.ListN.{length}
@@ -8,8 +8,8 @@ use native.Mathlib.Omega.{arith}
 use Prim.Native.Nat.{_≤_}
 use borrow.Author.Needs.{needs}
 use mathlib.Core.Path.{_≡_, refl, sym, _∙_}
-use Rattle.report.proofs.lines.put_sources.Statement.{statement}
-use Rattle.report.proofs.lines.put_sources.Tie as tie
+use Rattle.lines.proofs.put_sources.Statement.{statement}
+use Rattle.lines.proofs.put_sources.Tie as tie
 
 abbrev Inv-loop : tie.InvT-loop
 Inv-loop out₀ at counted n end₀ last₀ left₀ out end last left = (last ≤ n) × (n ≤ length counted) × (length out ≡ length out₀) × (writes (page out₀ at) (source-lines counted (reported counted n)) ≡ writes (page out end) (source-lines counted (named counted n left last)))

@@ -5,7 +5,7 @@ ghost use lib.ListN.{length, take};
 ghost use Rattle.io.specs.Counts.{Counts};
 ghost use Rattle.text.specs.Page.{page, writes, joined};
 ghost use Rattle.ranking.specs.Sources as sources;
-ghost use Rattle.report.specs.Lines as lines;
+ghost use Rattle.lines.specs.Lines as lines;
 use flow::DIMS;
 use head::Shedder;
 use label::LABEL_MOST;

@@ -1,10 +1,10 @@
 -- `lines::put_head` meets its contract: six lines one after the other, and how long they can be. Assumes nothing.
 use mathlib.Core.Path.{sym}
-use Rattle.report.proofs.Lengths.{head-short}
-use Rattle.report.proofs.Writing.{head-put}
+use Rattle.lines.proofs.Lengths.{head-short}
+use Rattle.lines.proofs.Writing.{head-put}
 use borrow.Author.Needs.{needs}
-use Rattle.report.proofs.lines.put_head.Statement.{statement}
-use Rattle.report.proofs.lines.put_head.Tie as tie
+use Rattle.lines.proofs.put_head.Statement.{statement}
+use Rattle.lines.proofs.put_head.Tie as tie
 
 is-unbounded-requires : tie.Need-is-unbounded-requires
 is-unbounded-requires c κs = search needs
