@@ -14,6 +14,8 @@ use Rattle.head.specs.declared.RateRead.{RateRead}
 use Rattle.head.specs.declared.RateRead.the-variants as rate-reads
 use Rattle.head.specs.declared.BoundedRead.{BoundedRead}
 use Rattle.head.specs.declared.BoundedRead.the-variants as bounded-reads
+use Rattle.head.specs.declared.Written.{Written}
+use Rattle.head.specs.declared.Written.the-variants as written
 
 unfoldable pub start-number : Begin → ℕ
 start-number begin.Started = 0
@@ -46,3 +48,7 @@ unfoldable pub bounded-number : BoundedRead → ℕ
 bounded-number bounded-reads.Bounded = 0
 bounded-number bounded-reads.Unbounded = 0
 bounded-number (bounded-reads.Refused n) = n
+
+abbrev pub written-number : Written → ℕ
+written-number (written.Bytes n) = 0
+written-number (written.Refused k) = k

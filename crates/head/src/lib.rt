@@ -121,6 +121,12 @@ pub enum BoundedRead {
     Refused(u64),
 }
 
+// Of a report: how many bytes were written.
+pub enum Written {
+    Bytes(usize),
+    Refused(u64),
+}
+
 // ---- choices and times
 
 fn both(a: bool, b: bool) -> bool

@@ -15,7 +15,7 @@ use Rattle.head.specs.declared.BoundedRead.{BoundedRead}
 use Rattle.head.specs.Numbers.{choose}
 use Rattle.head.specs.Answers.{reading-number, level-number, rate-number, bounded-number}
 use Rattle.head.specs.Readings.{visited, cut-batches, level-read, rate-read, is-bounded}
-use Rattle.report.specs.declared.Written.{Written}
+use Rattle.head.specs.declared.Written.{Written}
 use Rattle.report.specs.Report as reports
 use Rattle.shed.specs.Judging.{Memory}
 use Rattle.fair.specs.Calls as calls

@@ -8,7 +8,7 @@ use head::Done;
 use head::LevelRead;
 use head::RateRead;
 use head::Reading;
-use report::Written;
+use head::Written;
 
 pub fn judge_number(answer: Answer) -> u64
     ensures { λ r. ⌜ r ≡ answers.judge-number answer ⌝ }
@@ -69,7 +69,7 @@ pub fn bounded_number(answer: BoundedRead) -> u64
 }
 
 pub fn report_number(answer: Written) -> u64
-    ensures { λ r. ⌜ r ≡ reports.number answer ⌝ }
+    ensures { λ r. ⌜ r ≡ answers.written-number answer ⌝ }
 {
     match answer {
         Written::Bytes(_) => 0,

@@ -15,10 +15,11 @@ use Rattle.flow.specs.Flow.{all}
 use Rattle.head.specs.declared.Shedder.{Shedder}
 use Rattle.head.specs.Questions.{head-whole, memory-whole, costs-held, cut-asked}
 use Rattle.head.proofs.Asked.{cut-ready}
-use Rattle.report.specs.declared.Written.{Written}
-use Rattle.report.specs.declared.Written.the-variants.{Bytes, Refused}
+use Rattle.head.specs.declared.Written.{Written}
+use Rattle.head.specs.declared.Written.the-variants.{Bytes, Refused}
 use Rattle.lines.specs.Lines.{text}
-use Rattle.report.specs.Report.{number, bytes, report-asked, choose, answer, front, Ends, ends, report}
+use Rattle.head.specs.Answers.{written-number}
+use Rattle.report.specs.Report.{bytes, report-asked, choose, answer, front, Ends, ends, report}
 
 -- what questions 3 and 4 show: the sources counted are rows of the memory lent
 pub counted-held : (h : Shedder) (i u s k : ℕ) → head-whole h ≡ true → memory-whole h i u s k ≡ true → h .counted ≤ k
@@ -40,7 +41,7 @@ fits-of true true x room h = third (leb x room) refl h
 fits-of true false x room h = absurd (omega arith)
 fits-of false b x room h = absurd (omega arith)
 
-number-of : (a n : ℕ) (t : Bool) → eqb a 0 ≡ t → number (choose t (Bytes n) (Refused a)) ≡ a
+number-of : (a n : ℕ) (t : Bool) → eqb a 0 ≡ t → written-number (choose t (Bytes n) (Refused a)) ≡ a
 number-of a n true e = sym (eqb-true a 0 e)
 number-of a n false e = refl
 
@@ -85,7 +86,7 @@ module _ (h : Shedder) (hashes units uses : ℕ) (rows : List (List ℕ)) where
     taken e = (simp e, simp e)
 
     -- ---- the answer
-    pub answer-number : number (answer h hashes units uses rows room) ≡ report-asked h hashes units uses rows room
+    pub answer-number : written-number (answer h hashes units uses rows room) ≡ report-asked h hashes units uses rows room
     unfolding answer
     answer-number = number-of (report-asked h hashes units uses rows room) (length (text h rows)) (eqb (report-asked h hashes units uses rows room) 0) refl
 

@@ -6,15 +6,11 @@ use lib.Dec.{eqb, leb}
 use lib.ListN.{length, drop}
 use Rattle.head.specs.declared.Shedder.{Shedder}
 use Rattle.head.specs.Questions.{head-whole, memory-whole}
-use Rattle.report.specs.declared.Written.{Written}
-use Rattle.report.specs.declared.Written.the-variants.{Bytes, Refused}
+use Rattle.head.specs.declared.Written.{Written}
+use Rattle.head.specs.declared.Written.the-variants.{Bytes, Refused}
 use Rattle.lines.specs.Lines.{text}
 
--- ---- an answer: document 01's number, 0 where the text was written, and the bytes written
-abbrev pub number : Written → ℕ
-number (Bytes n) = 0
-number (Refused k) = k
-
+-- ---- the bytes written
 abbrev pub bytes : Written → ℕ
 bytes (Bytes n) = n
 bytes (Refused k) = 0

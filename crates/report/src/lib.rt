@@ -2,17 +2,13 @@
 ghost use mathlib.Core.Path.{_≡_};
 ghost use lib.ListN.{length, take};
 ghost use Rattle.io.specs.Counts.{Counts};
+ghost use Rattle.head.specs.Answers as answers;
 ghost use Rattle.report.specs.Report as reports;
 use flow::DIMS;
 use head::Shedder;
+use head::Written;
 use lines::TEXT_MOST;
 use lines::write_text;
-
-// How many bytes were written, or the number of the question answered no.
-pub enum Written {
-    Bytes(usize),
-    Refused(u64),
-}
 
 fn bytes(w: Written) -> usize
     ensures { λ r. ⌜ r ≡ reports.bytes w ⌝ }
@@ -24,7 +20,7 @@ fn bytes(w: Written) -> usize
 }
 
 fn number(w: Written) -> u64
-    ensures { λ r. ⌜ r ≡ reports.number w ⌝ }
+    ensures { λ r. ⌜ r ≡ answers.written-number w ⌝ }
 {
     match w {
         Written::Bytes(_) => 0,
@@ -70,7 +66,7 @@ pub fn write_report(
     out: &mut [u8],
 ) -> Written
     ensures { λ r. ⌜ reports.ends r (now (out .exit)) ≡ reports.report head (length (now (hashes .entry))) (length (now (units .entry))) (length (now (uses .entry))) (now (counted .entry)) (now (out .entry)) ⌝ }
-    ensures { λ r. ⌜ reports.number r ≡ reports.report-asked head (length (now (hashes .entry))) (length (now (units .entry))) (length (now (uses .entry))) (now (counted .entry)) (length (now (out .entry))) ⌝ }
+    ensures { λ r. ⌜ answers.written-number r ≡ reports.report-asked head (length (now (hashes .entry))) (length (now (units .entry))) (length (now (uses .entry))) (now (counted .entry)) (length (now (out .entry))) ⌝ }
 {
     let mut own = [0u8; TEXT_MOST];
     let w = composed(

@@ -14,7 +14,7 @@ use Rattle.shed.specs.declared.Judgement.{Judgement}
 use Rattle.cut.specs.declared.Cutting.{Cutting}
 use Rattle.shed.specs.Judging as judging
 use Rattle.cut.specs.Cutting as cutting
-use Rattle.report.specs.declared.Written.{Written}
+use Rattle.head.specs.declared.Written.{Written}
 use Rattle.report.specs.Report as reports
 use Rattle.tankpost.specs.declared.Count.{Count}
 use Rattle.tankpost.specs.Codes.{judge-code, read-written}

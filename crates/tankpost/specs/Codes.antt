@@ -18,8 +18,8 @@ use Rattle.head.specs.declared.RateRead.the-variants as rate-reads
 use Rattle.head.specs.declared.BoundedRead.{BoundedRead}
 use Rattle.head.specs.declared.BoundedRead.the-variants as bounded-reads
 use Rattle.head.specs.Numbers.{choose}
-use Rattle.report.specs.declared.Written.{Written}
-use Rattle.report.specs.declared.Written.the-variants as written
+use Rattle.head.specs.declared.Written.{Written}
+use Rattle.head.specs.declared.Written.the-variants as written
 use Rattle.tankpost.specs.declared.Count.{Count}
 use Rattle.tankpost.specs.declared.Level.{Level}
 

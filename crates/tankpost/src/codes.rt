@@ -13,7 +13,7 @@ use head::Done;
 use head::LevelRead;
 use head::RateRead;
 use head::Reading;
-use report::Written;
+use head::Written;
 
 pub fn start_code(answer: Begin) -> u64
     ensures { λ r. ⌜ r ≡ answers.start-number answer ⌝ }

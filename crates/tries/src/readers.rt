@@ -13,7 +13,7 @@ use head::LevelRead;
 use head::RateRead;
 use head::Reading;
 use head::Shedder;
-use report::Written;
+use head::Written;
 
 pub fn start_number(a: Begin) -> u64 {
     match a {

@@ -1,6 +1,6 @@
 -- `write_report` meets its contract: the text composed before is put whole, or nothing is. Assumes nothing.
 use mathlib.Core.Path.{ap, _∙_}
-use Rattle.report.specs.Report.{number}
+use Rattle.head.specs.Answers.{written-number}
 use Rattle.report.proofs.Asking.{written, answer-number}
 use borrow.Author.Needs.{needs}
 use Rattle.report.proofs.write_report.Statement.{statement}
@@ -25,7 +25,7 @@ same-length : tie.Need-same-length
 same-length c = search needs
 
 returns : tie.Need-returns
-returns c = (written (c .before .before .before .before .before .before .before .before .before .before .args .head) _ _ _ (c .before .before .before .before .before .before .before .before .before .before .args .counted .now) (c .before .before .before .before .before .before .before .before .before .before .args .out .now) _ _ _ _ _ (c .before .before .before .before .before .before .composed .ensures .0) (c .before .before .before .before .before .bytes .ensures) (c .before .before .before .before .before .before .composed .ensures .1 .1) (c .before .before .put .ensures), ap number (c .before .before .before .before .before .before .composed .ensures .0) ∙ answer-number _ _ _ _ _ _)
+returns c = (written (c .before .before .before .before .before .before .before .before .before .before .args .head) _ _ _ (c .before .before .before .before .before .before .before .before .before .before .args .counted .now) (c .before .before .before .before .before .before .before .before .before .before .args .out .now) _ _ _ _ _ (c .before .before .before .before .before .before .composed .ensures .0) (c .before .before .before .before .before .bytes .ensures) (c .before .before .before .before .before .before .composed .ensures .1 .1) (c .before .before .put .ensures), ap written-number (c .before .before .before .before .before .before .composed .ensures .0) ∙ answer-number _ _ _ _ _ _)
 
 pub write-report-spec : {M : Type 1} → statement M
 write-report-spec =
