@@ -3,7 +3,7 @@ use mathlib.Core.Path.{refl, _∙_}
 use mathlib.Core.List.{[], _∷_}
 use lib.Ieee.{lt, ofBits, ofInt}
 use Rattle.fade.specs.Fade.{fade}
-use Rattle.sender.specs.Fnv.{fed, feed, fnv1a}
+use Rattle.fnv.specs.Fnv.{fed, feed, fnv1a}
 use Rattle.label.specs.Label.{label, v6-label}
 use Rattle.sender.specs.Sender.{bytes-of, hash-of, table-of-hash}
 use Rattle.counted.specs.Sorted.{insert, sorted}

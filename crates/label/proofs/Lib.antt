@@ -1,5 +1,2 @@
--- Labels: the text is written. Fields, Reading: the parts of a text. Parsing: exactly the labels are taken.
+-- Labels: the text is written.
 pub mod Labels
-pub mod Fields
-pub mod Reading
-pub mod Parsing

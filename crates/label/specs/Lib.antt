@@ -1,3 +1,2 @@
--- Label: the text of a unit's name. Parse: which texts are labels, and of which unit.
+-- Label: the text of a unit's name.
 pub mod Label
-pub mod Parse

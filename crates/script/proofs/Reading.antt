@@ -12,10 +12,10 @@ use Rattle.text.specs.Number.{numeral, decimal}
 use Rattle.text.specs.Order.{same}
 use Rattle.text.proofs.Orders.{same-refl}
 use Rattle.sender.specs.declared.Unit as unit
-use Rattle.label.specs.declared.Parsed.the-variants.{Unit as Taken, Nothing as NoUnit}
+use Rattle.spelling.specs.declared.Parsed.the-variants.{Unit as Taken, Nothing as NoUnit}
 use Rattle.label.specs.Label.{label}
-use Rattle.label.specs.Parse.{parse, is-label, unit-in, InRange}
-use Rattle.label.proofs.Parsing.{label-parse}
+use Rattle.spelling.specs.Parse.{parse, is-label, unit-in, InRange}
+use Rattle.spelling.proofs.Parsing.{label-parse}
 use Rattle.head.specs.declared.Cause as cause
 use Rattle.head.specs.declared.Cause.the-variants.{ReceiverCeiling, OverShare, RelayRate}
 use Rattle.script.specs.declared.StartLine.{StartLine}

@@ -7,7 +7,7 @@ use Rattle.text.specs.Number.{numeral, decimal}
 use Rattle.text.specs.Order.{same}
 use Rattle.text.proofs.Orders.{same-eq, cond-true}
 use Rattle.label.specs.Label.{label}
-use Rattle.label.specs.Parse.{is-label, unit-in}
+use Rattle.spelling.specs.Parse.{is-label, unit-in}
 use Rattle.script.specs.declared.Line as script
 use Rattle.script.specs.declared.Line.the-variants.{Start, Judge, Cut, Report, Nothing}
 use Rattle.script.specs.Fields.{width, first, rest, read, number-in, is-number, are-numbers, number-at}

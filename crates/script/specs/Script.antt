@@ -6,7 +6,7 @@ use mathlib.Core.List.{List, [], _∷_, _++_}
 use Rattle.text.specs.Number.{decimal}
 use Rattle.text.specs.Order.{same}
 use Rattle.label.specs.Label.{label}
-use Rattle.label.specs.Parse.{is-label, unit-in, InRange}
+use Rattle.spelling.specs.Parse.{is-label, unit-in, InRange}
 use Rattle.head.specs.declared.Cause as cause
 use Rattle.head.specs.declared.Cause.the-variants.{ReceiverCeiling, OverShare, RelayRate}
 use Rattle.script.specs.Fields.{first, rest, are-numbers, number-at}

@@ -107,10 +107,10 @@ fn judge_in(s: &[u8]) -> Line
     ensures { λ r. ⌜ r ≡ script.judge-in (now (s .entry)) ⌝ }
 {
     let name = first(s);
-    if label::is_label(name) {
+    if spelling::is_label(name) {
         let numbers = rest(s);
         if are_numbers(numbers, 2) {
-            let unit = label::unit_in(name);
+            let unit = spelling::unit_in(name);
             let cost = amounts_at(numbers, 0);
             let stamp = number_at(numbers, 2);
             return Line::Judge(JudgeLine { unit, cost, stamp });
@@ -128,7 +128,7 @@ fn cut_of(name: &[u8], s: &[u8]) -> Line
     if is_cause(word) {
         let numbers = rest(s);
         if are_numbers(numbers, 1) {
-            let unit = label::unit_in(name);
+            let unit = spelling::unit_in(name);
             let cause = cause_in(word);
             let cost = amounts_at(numbers, 0);
             return Line::Cut(CutLine { unit, cause, cost });
@@ -143,7 +143,7 @@ fn cut_in(s: &[u8]) -> Line
     ensures { λ r. ⌜ r ≡ script.cut-in (now (s .entry)) ⌝ }
 {
     let name = first(s);
-    if label::is_label(name) {
+    if spelling::is_label(name) {
         return cut_of(name, rest(s));
     }
     Line::Nothing

@@ -1,38 +1,17 @@
--- Laws of `feed`: bytes fed in two parts, and the hash is below 2^64.
+-- The hash of each unit, as the code feeds it, and that it is below 2^64.
 use mathlib.Core.Path.{_≡_, refl}
-use mathlib.Core.List.{List, [], _∷_, _++_}
-use Prim.Native.Nat.{ℕ, _+_, _*_, _^_, _<_, _≤_}
-use native.Mathlib.Nat.{mod-lt}
-use lib.Pow.{pow-pos}
-use lib.Bits.{bitXor}
-use native.Mathlib.Numerals.{add-one}
-use lib.Dec.{lit<}
-use lib.ListN.{length, drop, getD, drop-of-length-le}
-use lib.Seq.{drop-cons}
-use Rattle.sender.specs.Fnv.{fed, feed, fnv1a, big-endian, offset-basis, prime}
+use Prim.Native.Nat.{ℕ, _^_, _<_}
+use Rattle.fnv.specs.Fnv.{fed, feed, fnv1a, big-endian, offset-basis}
+use Rattle.fnv.proofs.Feeding.{feed-append, fnv1a-below}
 use Rattle.sender.specs.Sender.{as-u64, key-bytes, bytes-of, hash-of}
 use Rattle.sender.specs.declared.PublicKey.{PublicKey}
 use Rattle.sender.specs.declared.Group as group
 use Rattle.sender.specs.declared.Unit as unit
 use Rattle.sender.specs.declared.Unit.the-variants.{Corroborated, Group as Grouped, NoAddress, Overflow}
 
-pub feed-append : (hash : ℕ) (xs ys : List ℕ) → feed hash (xs ++ ys) ≡ feed (feed hash xs) ys
-unfolding feed
-feed-append hash [] ys = refl
-feed-append hash (x ∷ xs) ys = feed-append (fed hash x) xs ys
-
-pub fed-below : (hash byte : ℕ) → fed hash byte < 2 ^ 64
-unfolding fed
-fed-below hash byte = mod-lt (bitXor hash byte * prime) (pow-pos 64)
-
-pub feed-below : (hash : ℕ) (bytes : List ℕ) → hash < 2 ^ 64 → feed hash bytes < 2 ^ 64
-unfolding feed
-feed-below hash [] h = h
-feed-below hash (x ∷ xs) h = feed-below (fed hash x) xs (fed-below hash x)
-
 pub hash-below : (u : unit.Unit) → hash-of u < 2 ^ 64
-unfolding hash-of fnv1a
-hash-below u = feed-below offset-basis (bytes-of u) (lit< tt)
+unfolding hash-of
+hash-below u = fnv1a-below (bytes-of u)
 
 -- four words, one after the other
 pub feed-key : (hash : ℕ) (k : PublicKey)
@@ -57,13 +36,3 @@ hash-none = refl
 pub hash-overflow : hash-of Overflow ≡ fed offset-basis 3
 unfolding hash-of fnv1a bytes-of feed
 hash-overflow = refl
-
--- ---- a slice fed byte by byte
-
-pub fed-next : (hash i : ℕ) (bytes : List ℕ) → i < length bytes → feed (fed hash (getD bytes i 0)) (drop (i + 1) bytes) ≡ feed hash (drop i bytes)
-unfolding feed
-fed-next hash i bytes h = rw (add-one, drop-cons bytes i 0)
-
-pub fed-all : (hash i : ℕ) (bytes : List ℕ) → length bytes ≤ i → hash ≡ feed hash (drop i bytes)
-unfolding feed
-fed-all hash i bytes h = rw (drop-of-length-le bytes h)

@@ -1,3 +1,2 @@
--- Fnv: the hash of RFC 9923. Sender: a unit's bytes, hash, rank, table and words.
-pub mod Fnv
+-- Sender: a unit's bytes, hash, rank, table and words.
 pub mod Sender

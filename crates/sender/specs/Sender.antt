@@ -7,7 +7,7 @@ use lib.Dec.{eqb, ltb}
 use lib.IntN.{pos}
 use lib.Ieee as Ieee
 use lib.Ieee.{Float, binary64, ofBits, ofInt, toUnsigned}
-use Rattle.sender.specs.Fnv.{fnv1a, big-endian}
+use Rattle.fnv.specs.Fnv.{fnv1a, big-endian}
 use Rattle.sender.specs.declared.PublicKey.{PublicKey}
 use Rattle.sender.specs.declared.Group.{Group}
 use Rattle.sender.specs.declared.Group.the-variants.{V4, V6}

@@ -4,9 +4,9 @@ ghost use Prim.Native.Nat.{_<_};
 ghost use Rattle.sender.specs.Sender as sender;
 use super::PublicKey;
 use super::Unit;
-use super::fnv::OFFSET_BASIS;
-use super::fnv::fed;
-use super::fnv::feed_word;
+use fnv::OFFSET_BASIS;
+use fnv::fed;
+use fnv::feed_word;
 
 fn hash_of_key(key: PublicKey) -> u64
     ensures { λ r. ⌜ r ≡ sender.hash-of (Unit.Corroborated key) ⌝ }

@@ -2,7 +2,6 @@
 ghost use mathlib.Core.Path.{_≡_};
 ghost use Rattle.sender.specs.Sender as sender;
 
-pub mod fnv;
 pub mod hash;
 pub mod memory;
 

@@ -168,18 +168,18 @@ fn read_list() -> Tally {
 
 fn vectors() -> Tally {
     Tally::new()
-        .with(sender::fnv::fnv1a(b"") == 0xcbf2_9ce4_8422_2325)
-        .with(sender::fnv::fnv1a(b"a") == 0xaf63_dc4c_8601_ec8c)
-        .with(sender::fnv::fnv1a(b"b") == 0xaf63_df4c_8601_f1a5)
-        .with(sender::fnv::fnv1a(b"c") == 0xaf63_de4c_8601_eff2)
-        .with(sender::fnv::fnv1a(b"d") == 0xaf63_d94c_8601_e773)
-        .with(sender::fnv::fnv1a(b"e") == 0xaf63_d84c_8601_e5c0)
-        .with(sender::fnv::fnv1a(b"f") == 0xaf63_db4c_8601_ead9)
-        .with(sender::fnv::fnv1a(b"fo") == 0x0898_5907_b541_d342)
-        .with(sender::fnv::fnv1a(b"foo") == 0xdcb2_7518_fed9_d577)
-        .with(sender::fnv::fnv1a(b"foob") == 0xdd12_0e79_0c25_12af)
-        .with(sender::fnv::fnv1a(b"fooba") == 0xcac1_65af_a2fe_f40a)
-        .with(sender::fnv::fnv1a(b"foobar") == 0x8594_4171_f739_67e8)
+        .with(fnv::fnv1a(b"") == 0xcbf2_9ce4_8422_2325)
+        .with(fnv::fnv1a(b"a") == 0xaf63_dc4c_8601_ec8c)
+        .with(fnv::fnv1a(b"b") == 0xaf63_df4c_8601_f1a5)
+        .with(fnv::fnv1a(b"c") == 0xaf63_de4c_8601_eff2)
+        .with(fnv::fnv1a(b"d") == 0xaf63_d94c_8601_e773)
+        .with(fnv::fnv1a(b"e") == 0xaf63_d84c_8601_e5c0)
+        .with(fnv::fnv1a(b"f") == 0xaf63_db4c_8601_ead9)
+        .with(fnv::fnv1a(b"fo") == 0x0898_5907_b541_d342)
+        .with(fnv::fnv1a(b"foo") == 0xdcb2_7518_fed9_d577)
+        .with(fnv::fnv1a(b"foob") == 0xdd12_0e79_0c25_12af)
+        .with(fnv::fnv1a(b"fooba") == 0xcac1_65af_a2fe_f40a)
+        .with(fnv::fnv1a(b"foobar") == 0x8594_4171_f739_67e8)
 }
 
 fn print(t: Tally, what: &[u8]) {

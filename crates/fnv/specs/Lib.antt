@@ -1,0 +1,2 @@
+-- Fnv: the hash of RFC 9923.
+pub mod Fnv

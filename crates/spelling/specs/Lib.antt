@@ -1,0 +1,2 @@
+-- Parse: which texts are labels, and of which unit.
+pub mod Parse
