@@ -21,7 +21,7 @@ fn start(
     let s = head::start(head, hashes, units, uses, counts, sums, counted, rate, none);
     let answer = s.answer;
     let now = s.head;
-    tries::after(tries::start_number(answer), now)
+    tries::after(numbers::start_number(answer), now)
 }
 
 // A judgement, or a start.
@@ -73,7 +73,7 @@ fn cut(
     let d = cut::cut(head, hashes, units, uses, counted, who, why, cost);
     let answer = d.answer;
     let now = d.head;
-    tries::after(tries::cut_number(answer), now)
+    tries::after(numbers::cut_number(answer), now)
 }
 
 // The calls of the report. The number of a report is told by the call beside it; a report that is refused has an empty
@@ -88,7 +88,14 @@ fn report(
     out: &mut [u8],
 ) -> u64 {
     if call == 5 {
-        return tries::written_number(report::write_report(head, hashes, units, uses, counted, out));
+        return numbers::report_number(report::write_report(
+            head,
+            hashes,
+            units,
+            uses,
+            counted,
+            out,
+        ));
     }
     let no = report::report_refusal(head, hashes, units, uses, counted, out);
     if call == 6 {

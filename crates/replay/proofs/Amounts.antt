@@ -25,7 +25,8 @@ use Rattle.sender.specs.declared.Words.{Words}
 use Rattle.sender.specs.Sender as sender
 use Rattle.fair.specs.Calls as calls
 use Rattle.fair.specs.Calls.{State, Call, Judge, Cut, Read}
-use Rattle.replay.specs.Replay.{words-in, cost-in, cause-in, judge-in, cut-in, is-admitted, counted-if, amounts, on-watched}
+use Rattle.numbers.specs.Numbers.{cause-of}
+use Rattle.replay.specs.Replay.{words-in, cost-in, judge-in, cut-in, is-admitted, counted-if, amounts, on-watched}
 use Rattle.replay.proofs.Watched.{watched-is}
 use Rattle.replay.proofs.Totals.{same-parts, parts-at, zeros-parts}
 
@@ -38,12 +39,12 @@ unfolding judge-in
 row-judge row w u cost ew eu ec =
     ap (λ (v : unit.Unit). Judge v cost (getD row 6 0)) (unit-is row w u ew eu) ∙ ap (λ (c : List ℕ). Judge (sender.unit-of (words-in row)) c (getD row 6 0)) ec
 
-pub row-cut : (row : List ℕ) (w : Words) (u : unit.Unit) (cost : List ℕ) (c : Cause) → w ≡ words-in row → u ≡ sender.unit-of w → cost ≡ cost-in row → c ≡ cause-in (getD row 6 0) → Cut u c cost ≡ cut-in row
+pub row-cut : (row : List ℕ) (w : Words) (u : unit.Unit) (cost : List ℕ) (c : Cause) → w ≡ words-in row → u ≡ sender.unit-of w → cost ≡ cost-in row → c ≡ cause-of (getD row 6 0) → Cut u c cost ≡ cut-in row
 unfolding cut-in
 row-cut row w u cost c ew eu ec ek =
     ap (λ (v : unit.Unit). Cut v c cost) (unit-is row w u ew eu)
     ∙ ap (λ (x : Cause). Cut (sender.unit-of (words-in row)) x cost) ek
-    ∙ ap (λ (x : List ℕ). Cut (sender.unit-of (words-in row)) (cause-in (getD row 6 0)) x) ec
+    ∙ ap (λ (x : List ℕ). Cut (sender.unit-of (words-in row)) (cause-of (getD row 6 0)) x) ec
 
 -- ---- what it amounts to
 -- a row's cost has a part for each dimension

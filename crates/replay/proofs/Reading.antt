@@ -15,16 +15,17 @@ use Rattle.head.specs.declared.BoundedRead.{BoundedRead}
 use Rattle.head.specs.Numbers.{choose}
 use Rattle.head.specs.Answers.{reading-number, level-number, rate-number, bounded-number}
 use Rattle.head.specs.Readings.{visited, cut-batches, level-read, rate-read, is-bounded}
+use Rattle.numbers.specs.Numbers.{cause-of, dim-of}
 use Rattle.head.specs.declared.Written.{Written}
 use Rattle.report.specs.Report as reports
 use Rattle.shed.specs.Judging.{Memory}
 use Rattle.fair.specs.Calls as calls
 use Rattle.fair.specs.Calls.{State}
-use Rattle.replay.specs.Replay.{cause-in, dim-in, head-reading, reading-in, read-page}
+use Rattle.replay.specs.Replay.{head-reading, reading-in, read-page}
 
 -- ---- the head alone
 module _ (h : Shedder) (m : Memory) (which n : ℕ) (x : ℕ) where
-  pub count-is : (c : Cause) (r : Reading) → eqb which 4 ≡ true → c ≡ cause-in n → r ≡ cut-batches h c → x ≡ reading-number r → x ≡ calls.read-number (calls.state-of h m) (head-reading which n)
+  pub count-is : (c : Cause) (r : Reading) → eqb which 4 ≡ true → c ≡ cause-of n → r ≡ cut-batches h c → x ≡ reading-number r → x ≡ calls.read-number (calls.state-of h m) (head-reading which n)
   unfolding head-reading
   count-is c r e ec er ex = rw e (ex ∙ ap reading-number er ∙ ap (λ (y : Cause). reading-number (cut-batches h y)) ec)
 
@@ -32,11 +33,11 @@ module _ (h : Shedder) (m : Memory) (which n : ℕ) (x : ℕ) where
   unfolding head-reading
   visited-is r e f er ex = rw (e, f) (ex ∙ ap reading-number er)
 
-  pub level-is : (d : Dim) (r : LevelRead) → eqb which 4 ≡ false → eqb which 5 ≡ false → eqb which 6 ≡ true → d ≡ dim-in n → r ≡ level-read h d → x ≡ level-number r → x ≡ calls.read-number (calls.state-of h m) (head-reading which n)
+  pub level-is : (d : Dim) (r : LevelRead) → eqb which 4 ≡ false → eqb which 5 ≡ false → eqb which 6 ≡ true → d ≡ dim-of n → r ≡ level-read h d → x ≡ level-number r → x ≡ calls.read-number (calls.state-of h m) (head-reading which n)
   unfolding head-reading
   level-is d r e f g ed er ex = rw (e, f, g) (ex ∙ ap level-number er ∙ ap (λ (y : Dim). level-number (level-read h y)) ed)
 
-  pub rate-is : (d : Dim) (r : RateRead) → eqb which 4 ≡ false → eqb which 5 ≡ false → eqb which 6 ≡ false → eqb which 7 ≡ true → d ≡ dim-in n → r ≡ rate-read h d → x ≡ rate-number r
+  pub rate-is : (d : Dim) (r : RateRead) → eqb which 4 ≡ false → eqb which 5 ≡ false → eqb which 6 ≡ false → eqb which 7 ≡ true → d ≡ dim-of n → r ≡ rate-read h d → x ≡ rate-number r
       → x ≡ calls.read-number (calls.state-of h m) (head-reading which n)
   unfolding head-reading
   rate-is d r e f g k ed er ex = rw (e, f, g, k) (ex ∙ ap rate-number er ∙ ap (λ (y : Dim). rate-number (rate-read h y)) ed)
@@ -80,4 +81,4 @@ picked s page false false false false cause dim dim' = refl
 pub head-page : (s : State) (row page : List ℕ) → eqb (getD row 0 0) 2 ≡ false → eqb (getD row 0 0) 3 ≡ false → page ≡ read-page s (reading-in row page) page
 unfolding reading-in head-reading
 head-page s row page e f =
-    rw (e, f) (picked s page (eqb (getD row 0 0) 4) (eqb (getD row 0 0) 5) (eqb (getD row 0 0) 6) (eqb (getD row 0 0) 7) (cause-in (getD row 6 0)) (dim-in (getD row 6 0)) (dim-in (getD row 6 0)))
+    rw (e, f) (picked s page (eqb (getD row 0 0) 4) (eqb (getD row 0 0) 5) (eqb (getD row 0 0) 6) (eqb (getD row 0 0) 7) (cause-of (getD row 6 0)) (dim-of (getD row 6 0)) (dim-of (getD row 6 0)))

@@ -12,11 +12,8 @@ use Rattle.sender.specs.Sender as sender
 use Rattle.store.specs.Store as store
 use Rattle.head.specs.declared.Answer.{Answer}
 use Rattle.head.specs.declared.Answer.the-variants as answer
-use Rattle.head.specs.declared.Cause.{Cause}
-use Rattle.head.specs.declared.Cause.the-variants as cause
-use Rattle.head.specs.declared.Dim.{Dim}
-use Rattle.head.specs.declared.Dim.the-variants as dim
 use Rattle.head.specs.Numbers.{choose}
+use Rattle.numbers.specs.Numbers.{cause-of, dim-of}
 use Rattle.report.specs.Report as reports
 use Rattle.fair.specs.Calls as calls
 use Rattle.fair.specs.Calls.{State, Call, Judge, Cut, Read, Reading, Report, ReportBeside, Count, Visited, Level, Rate, IsBounded, events, by}
@@ -30,22 +27,16 @@ words-in row = record { kind = getD row 1 0; a = getD row 2 0; b = getD row 3 0;
 unfoldable pub cost-in : List ℕ → List ℕ
 cost-in row = upto (λ (d : ℕ). getD row (7 + d) 0) dims (replicate dims 0)
 
-unfoldable pub cause-in : ℕ → Cause
-cause-in n = choose (eqb n 0) cause.ReceiverCeiling (choose (eqb n 1) cause.OverShare cause.RelayRate)
-
-unfoldable pub dim-in : ℕ → Dim
-dim-in n = choose (eqb n 0) dim.Receptions dim.Bytes
-
 unfoldable pub judge-in : List ℕ → Call
 judge-in row = Judge (sender.unit-of (words-in row)) (cost-in row) (getD row 6 0)
 
 unfoldable pub cut-in : List ℕ → Call
-cut-in row = Cut (sender.unit-of (words-in row)) (cause-in (getD row 6 0)) (cost-in row)
+cut-in row = Cut (sender.unit-of (words-in row)) (cause-of (getD row 6 0)) (cost-in row)
 
 -- what is read of the head alone, by the row's first word and its stamp, cause or dimension: 4 the batches cut for a cause, 5 the tables visited, 6 a level, 7 a rate, anything else whether the relay is bounded
 unfoldable pub head-reading : ℕ → ℕ → Reading
 head-reading which n =
-    choose (eqb which 4) (Count (cause-in n)) (choose (eqb which 5) Visited (choose (eqb which 6) (Level (dim-in n)) (choose (eqb which 7) (Rate (dim-in n)) IsBounded)))
+    choose (eqb which 4) (Count (cause-of n)) (choose (eqb which 5) Visited (choose (eqb which 6) (Level (dim-of n)) (choose (eqb which 7) (Rate (dim-of n)) IsBounded)))
 
 -- 2 is a report into the buffer, 3 the call beside it
 unfoldable pub reading-in : List ℕ → List ℕ → Reading

@@ -1,5 +1,4 @@
 // A list of calls, given as rows of words, run through the real calls: what it leaves is the run of the list.
-mod numbers;
 mod own;
 mod read;
 mod rows;
@@ -21,11 +20,11 @@ ghost use Rattle.replay.specs.Bounds as bounds;
 use flow::DIMS;
 use head::Answer;
 use head::Shedder;
+use numbers::cause_of;
 use numbers::cut_number;
 use numbers::judge_number;
 use own::on_watched;
 use read::read_row;
-use rows::cause_in;
 use rows::cost_in;
 use rows::words_in;
 use sender::Unit;
@@ -117,7 +116,7 @@ fn cut_row(
 {
     let unit = sender::unit_of(words_in(row));
     let cost = cost_in(row);
-    let cause = cause_in(row[6]);
+    let cause = cause_of(row[6]);
     let cut = cut::cut(head, hashes, units, uses, counted, unit, cause, cost);
     let answer = cut.answer;
     let left = cut.head;

@@ -6,22 +6,22 @@ ghost use Rattle.shed.specs.Judging as judging;
 ghost use Rattle.shed.specs.Judging.{Memory};
 ghost use Rattle.fair.specs.Calls as calls;
 ghost use Rattle.replay.specs.Replay as replay;
-use crate::numbers::bounded_number;
-use crate::numbers::level_number;
-use crate::numbers::rate_number;
-use crate::numbers::reading_number;
-use crate::numbers::report_number;
-use crate::rows::cause_in;
-use crate::rows::dim_in;
 use flow::DIMS;
 use head::Shedder;
+use numbers::bounded_number;
+use numbers::cause_of;
+use numbers::dim_of;
+use numbers::level_number;
+use numbers::rate_number;
+use numbers::reading_number;
+use numbers::report_number;
 
 // A reading of the head alone.
 fn head_read(head: Shedder, which: u64, n: u64) -> u64
     ensures { λ r. ⌜ ((m : Memory) → r ≡ calls.read-number (calls.state-of head m) (replay.head-reading which n)) ⌝ }
 {
     if which == 4 {
-        let count = readings::cut_batches(head, cause_in(n));
+        let count = readings::cut_batches(head, cause_of(n));
         return reading_number(count);
     }
     if which == 5 {
@@ -29,11 +29,11 @@ fn head_read(head: Shedder, which: u64, n: u64) -> u64
         return reading_number(visited);
     }
     if which == 6 {
-        let level = readings::level(head, dim_in(n));
+        let level = readings::level(head, dim_of(n));
         return level_number(level);
     }
     if which == 7 {
-        let rate = readings::rate(head, dim_in(n));
+        let rate = readings::rate(head, dim_of(n));
         return rate_number(rate);
     }
     let bounded = readings::is_bounded(head);

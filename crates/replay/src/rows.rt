@@ -2,8 +2,6 @@
 ghost use mathlib.Core.Path.{_≡_};
 ghost use Rattle.replay.specs.Replay as replay;
 use flow::DIMS;
-use head::Cause;
-use head::Dim;
 use sender::Words;
 
 pub fn words_in(row: [u64; 7 + DIMS]) -> Words
@@ -28,25 +26,4 @@ pub fn cost_in(row: [u64; 7 + DIMS]) -> [u64; DIMS]
         d += 1;
     }
     cost
-}
-
-pub fn cause_in(n: u64) -> Cause
-    ensures { λ r. ⌜ r ≡ replay.cause-in n ⌝ }
-{
-    if n == 0 {
-        return Cause::ReceiverCeiling;
-    }
-    if n == 1 {
-        return Cause::OverShare;
-    }
-    Cause::RelayRate
-}
-
-pub fn dim_in(n: u64) -> Dim
-    ensures { λ r. ⌜ r ≡ replay.dim-in n ⌝ }
-{
-    if n == 0 {
-        return Dim::Receptions;
-    }
-    Dim::Bytes
 }

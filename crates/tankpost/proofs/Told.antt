@@ -16,8 +16,8 @@ use Rattle.shed.specs.Judging as judging
 use Rattle.cut.specs.Cutting as cutting
 use Rattle.head.specs.declared.Written.{Written}
 use Rattle.report.specs.Report as reports
-use Rattle.tankpost.specs.declared.Count.{Count}
-use Rattle.tankpost.specs.Codes.{judge-code, read-written}
+use Rattle.numbers.specs.declared.Count.{Count}
+use Rattle.numbers.specs.Numbers.{judge-code, read-written}
 use Rattle.tankpost.specs.Calls.{start-ends, start-told, judge-ends, judge-told, cut-ends, cut-told, reported, report-told}
 
 pub start-tells : (s : Starting) (g : Hist) (b : starts.Beginning) (n : ℕ) → starts.beginning s g ≡ b → n ≡ start-number (s .answer)

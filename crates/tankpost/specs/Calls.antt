@@ -9,9 +9,9 @@ use Rattle.head.specs.Start as starts
 use Rattle.shed.specs.Judging as judging
 use Rattle.cut.specs.Cutting as cutting
 use Rattle.report.specs.Report as reports
+use Rattle.numbers.specs.declared.Count.{Count}
+use Rattle.numbers.specs.Numbers.{judge-code, read-written}
 use Rattle.tankpost.specs.declared.Answered.{Answered}
-use Rattle.tankpost.specs.declared.Count.{Count}
-use Rattle.tankpost.specs.Codes.{judge-code, read-written}
 
 -- ---- a start writes the histogram
 pub record Started : Type 0 where

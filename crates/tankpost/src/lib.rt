@@ -11,33 +11,19 @@ ghost use Rattle.head.specs.Readings as readings;
 ghost use Rattle.shed.specs.Judging as judging;
 ghost use Rattle.cut.specs.Cutting as cutting;
 ghost use Rattle.report.specs.Report as reports;
-ghost use Rattle.tankpost.specs.Codes as codes;
+ghost use Rattle.numbers.specs.Numbers as numbers;
 ghost use Rattle.tankpost.specs.Calls as calls;
 use flow::DIMS;
 use head::Shedder;
+use numbers::Count;
+use numbers::Level;
 use sender::Words;
 
-mod codes;
-
-// A call's answer as a number (specs/Codes), and the head after it.
+// A call's answer as a number (crate numbers), and the head after it.
 #[repr(C)]
 pub struct Answered {
     pub answer: u64,
     pub head: Shedder,
-}
-
-// A number read: the refusal's number, 0 where there was none; and the value, 0 on a refusal.
-#[repr(C)]
-pub struct Count {
-    pub refusal: u64,
-    pub value: u64,
-}
-
-// A level read, in the same way.
-#[repr(C)]
-pub struct Level {
-    pub refusal: u64,
-    pub value: f64,
 }
 
 // head::start: 0, or the number of the refusal. The head given is left by a refused start.
@@ -69,7 +55,7 @@ pub extern "C" fn tankpost_start(
     let answer = s.answer;
     let h = s.head;
     Answered {
-        answer: codes::start_code(answer),
+        answer: numbers::start_number(answer),
         head: h,
     }
 }
@@ -105,7 +91,7 @@ pub extern "C" fn tankpost_judge(
     let answer = j.answer;
     let h = j.head;
     Answered {
-        answer: codes::judge_code(answer),
+        answer: numbers::judge_code(answer),
         head: h,
     }
 }
@@ -122,7 +108,7 @@ pub extern "C" fn tankpost_cut(
     cause: u64,
     cost: &[u64; DIMS],
 ) -> Answered
-    ensures { λ r. ⌜ calls.cut r (store.rows (now (hashes .exit)) (now (units .exit)) (now (uses .exit))) (now (counted .exit)) ≡ calls.cut-told (cutting.cut head (store.rows (now (hashes .entry)) (now (units .entry)) (now (uses .entry))) (now (counted .entry)) (sender.unit-of unit) (codes.cause-of cause) (now (cost .entry))) ⌝ }
+    ensures { λ r. ⌜ calls.cut r (store.rows (now (hashes .exit)) (now (units .exit)) (now (uses .exit))) (now (counted .exit)) ≡ calls.cut-told (cutting.cut head (store.rows (now (hashes .entry)) (now (units .entry)) (now (uses .entry))) (now (counted .entry)) (sender.unit-of unit) (numbers.cause-of cause) (now (cost .entry))) ⌝ }
 {
     let c = cut::cut(
         head,
@@ -131,13 +117,13 @@ pub extern "C" fn tankpost_cut(
         uses,
         counted,
         sender::unit_of(unit),
-        codes::cause_of(cause),
+        numbers::cause_of(cause),
         *cost,
     );
     let answer = c.answer;
     let h = c.head;
     Answered {
-        answer: codes::cut_code(answer),
+        answer: numbers::cut_number(answer),
         head: h,
     }
 }
@@ -155,7 +141,7 @@ pub extern "C" fn tankpost_report(
     ensures { λ r. ⌜ calls.reported r (now (out .exit)) ≡ calls.report-told (reports.report head (length (now (hashes .entry))) (length (now (units .entry))) (length (now (uses .entry))) (now (counted .entry)) (now (out .entry))) ⌝ }
 {
     let w = report::write_report(head, hashes, units, uses, counted, out);
-    codes::read_written(w)
+    numbers::read_written(w)
 }
 
 // report::report_refusal: the number of the refusal, 0 where the report would be written.
@@ -177,37 +163,37 @@ pub extern "C" fn tankpost_report_refusal(
 
 #[no_mangle]
 pub extern "C" fn tankpost_visited(head: Shedder) -> Count
-    ensures { λ r. ⌜ r ≡ codes.read-count (readings.visited head) ⌝ }
+    ensures { λ r. ⌜ r ≡ numbers.read-count (readings.visited head) ⌝ }
 {
-    codes::read_count(readings::visited(head))
+    numbers::read_count(readings::visited(head))
 }
 
 #[no_mangle]
 pub extern "C" fn tankpost_cut_batches(head: Shedder, cause: u64) -> Count
-    ensures { λ r. ⌜ r ≡ codes.read-count (readings.cut-batches head (codes.cause-of cause)) ⌝ }
+    ensures { λ r. ⌜ r ≡ numbers.read-count (readings.cut-batches head (numbers.cause-of cause)) ⌝ }
 {
-    codes::read_count(readings::cut_batches(head, codes::cause_of(cause)))
+    numbers::read_count(readings::cut_batches(head, numbers::cause_of(cause)))
 }
 
 #[no_mangle]
 pub extern "C" fn tankpost_level(head: Shedder, dim: u64) -> Level
-    ensures { λ r. ⌜ r ≡ codes.read-level (readings.level-read head (codes.dim-of dim)) ⌝ }
+    ensures { λ r. ⌜ r ≡ numbers.read-level (readings.level-read head (numbers.dim-of dim)) ⌝ }
 {
-    codes::read_level(readings::level(head, codes::dim_of(dim)))
+    numbers::read_level(readings::level(head, numbers::dim_of(dim)))
 }
 
 // An unbounded relay's rate reads u64::MAX.
 #[no_mangle]
 pub extern "C" fn tankpost_rate(head: Shedder, dim: u64) -> Count
-    ensures { λ r. ⌜ r ≡ codes.read-rate (readings.rate-read head (codes.dim-of dim)) ⌝ }
+    ensures { λ r. ⌜ r ≡ numbers.read-rate (readings.rate-read head (numbers.dim-of dim)) ⌝ }
 {
-    codes::read_rate(readings::rate(head, codes::dim_of(dim)))
+    numbers::read_rate(readings::rate(head, numbers::dim_of(dim)))
 }
 
 // 1 for a bounded relay, 0 for an unbounded one.
 #[no_mangle]
 pub extern "C" fn tankpost_is_bounded(head: Shedder) -> Count
-    ensures { λ r. ⌜ r ≡ codes.read-bounded (readings.is-bounded head) ⌝ }
+    ensures { λ r. ⌜ r ≡ numbers.read-bounded (readings.is-bounded head) ⌝ }
 {
-    codes::read_bounded(readings::is_bounded(head))
+    numbers::read_bounded(readings::is_bounded(head))
 }

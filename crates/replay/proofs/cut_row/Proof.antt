@@ -12,11 +12,11 @@ unit-of-requires c κs = search needs
 cost-in-requires : tie.Need-cost-in-requires
 cost-in-requires c κs = search needs
 
-array-read-cause-in : tie.Need-array-read-cause-in
-array-read-cause-in c = search needs
+array-read-cause-of : tie.Need-array-read-cause-of
+array-read-cause-of c = search needs
 
-cause-in-requires : tie.Need-cause-in-requires
-cause-in-requires c κs = search needs
+cause-of-requires : tie.Need-cause-of-requires
+cause-of-requires c κs = search needs
 
 cut-requires : tie.Need-cut-requires
 cut-requires c κs = search needs
@@ -46,7 +46,7 @@ returns : tie.Need-returns
 returns c =
     let cut = c .before .before .before .before .before .before .before .before .before .cut .ensures .0 in
     let cost = c .before .before .before .before .before .before .before .before .before .before .before .before .before .before .before .cost-in .ensures in
-    let k = row-cut _ _ _ _ _ (c .before .before .before .before .before .before .before .before .before .before .before .before .before .before .before .before .before .words-in .ensures) (c .before .before .before .before .before .before .before .before .before .before .before .before .before .before .before .before .unit-of .ensures) cost (c .before .before .before .before .before .before .before .before .before .before .before .before .before .before .cause-in .ensures) in
+    let k = row-cut _ _ _ _ _ (c .before .before .before .before .before .before .before .before .before .before .before .before .before .before .before .before .before .words-in .ensures) (c .before .before .before .before .before .before .before .before .before .before .before .before .before .before .before .before .unit-of .ensures) cost (c .before .before .before .before .before .before .before .before .before .before .before .before .before .before .cause-of .ensures) in
     λ watched g. record {
       left = cut-left _ _ g _ _ _ _ _ _ _ _ k cut;
       number = cut-number-is _ _ g _ _ _ _ _ _ _ _ k cut _ (c .before .before .cut-number .ensures);
@@ -62,8 +62,8 @@ cut-row-spec =
     words-in-requires
     unit-of-requires
     cost-in-requires
-    array-read-cause-in
-    cause-in-requires
+    array-read-cause-of
+    cause-of-requires
     cut-requires
     cut-number-requires
     index-of-requires

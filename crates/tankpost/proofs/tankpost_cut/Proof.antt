@@ -12,8 +12,8 @@ cause-of-requires c κs = search needs
 cut-requires : tie.Need-cut-requires
 cut-requires c κs = search needs
 
-cut-code-requires : tie.Need-cut-code-requires
-cut-code-requires c κs = search needs
+cut-number-requires : tie.Need-cut-number-requires
+cut-number-requires c κs = search needs
 
 same-length : tie.Need-same-length
 same-length c = search needs
@@ -28,7 +28,7 @@ same-length-4 : tie.Need-same-length-4
 same-length-4 c = search needs
 
 returns : tie.Need-returns
-returns c = cut-tells _ _ _ _ _ _ _ _ _ _ _ _ (c .before .before .before .before .before .before .before .cut .ensures .0) (c .before .before .before .before .before .before .before .before .before .before .unit-of .ensures) (c .before .before .before .before .before .before .before .before .before .cause-of .ensures) (c .cut-code .ensures)
+returns c = cut-tells _ _ _ _ _ _ _ _ _ _ _ _ (c .before .before .before .before .before .before .before .cut .ensures .0) (c .before .before .before .before .before .before .before .before .before .before .unit-of .ensures) (c .before .before .before .before .before .before .before .before .before .cause-of .ensures) (c .cut-number .ensures)
 
 pub tankpost-cut-spec : {M : Type 1} → statement M
 tankpost-cut-spec =
@@ -37,7 +37,7 @@ tankpost-cut-spec =
     unit-of-requires
     cause-of-requires
     cut-requires
-    cut-code-requires
+    cut-number-requires
     same-length
     same-length-2
     same-length-3
