@@ -11,9 +11,9 @@ use Rattle.sender.specs.declared.Unit as unit
 use Rattle.fair.specs.Calls.{State, Call, Event, Demand, events, by, span, admitted, handed, own, admitted-on, handed-on, fill-on}
 use Rattle.fair.specs.Runs.{sum, highest}
 use Rattle.fair.proofs.Calls.{demand-three}
-use Rattle.replay.specs.Replay.{whole, totals}
+use Rattle.turns.specs.Replay.{whole, totals}
 use Rattle.replay.specs.Bounds.{Relay, Share}
-use Rattle.replay.proofs.Totals.{parts-at}
+use Rattle.turns.proofs.Totals.{parts-at}
 
 -- a bound of every run of at least one call holds of the whole list: with no call nothing is admitted
 whole-run : (a b : Event → List Event → ℕ) (top rate : ℕ) (es : List Event) → ((k : ℕ) → 256000 * sum a (suc k) es ≤ top + 256 * (rate * span es k) + 256000 * sum b (suc k) es + 1000 * suc k)

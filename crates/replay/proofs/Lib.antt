@@ -1,6 +1,1 @@
-pub mod Turning
-pub mod Watched
-pub mod Totals
-pub mod Amounts
-pub mod Reading
 pub mod Bounds

@@ -14,7 +14,7 @@ use Rattle.shed.specs.Judging.{Memory}
 use Rattle.fair.specs.Calls.{State, Call, events, by, span, left, starts, handed, own, handed-on, fill-on}
 use Rattle.fair.specs.Runs.{highest}
 use Rattle.fair.specs.Tokens.{burst}
-use Rattle.replay.specs.Replay.{whole}
+use Rattle.turns.specs.Replay.{whole}
 
 -- the calls not refused by number, and the milliseconds of the clock from the first of them to the last (0 where there is none)
 abbrev pub taken : State → List Call → ℕ

@@ -1,189 +1,19 @@
 // A list of calls, given as rows of words, run through the real calls: what it leaves is the run of the list.
-mod own;
-mod read;
-mod rows;
-
 ghost use mathlib.Core.Path.{_≡_};
 ghost use lib.ListN.{length};
 ghost use lib.Dec.{eqb};
 ghost use mathlib.Core.Bool.{cond};
 ghost use Prim.Native.Nat.{_+_, _^_, _%_};
-ghost use Rattle.sender.specs.declared.Unit as unit;
 ghost use Rattle.store.specs.Store as store;
 ghost use Rattle.wants.specs.Wants as wants;
-ghost use Rattle.wants.specs.Wants.{Hist};
 ghost use Rattle.shed.specs.Judging as judging;
-ghost use Rattle.shed.specs.Judging.{Memory};
 ghost use Rattle.fair.specs.Calls as calls;
-ghost use Rattle.replay.specs.Replay as replay;
+ghost use Rattle.turns.specs.Replay as replay;
 ghost use Rattle.replay.specs.Bounds as bounds;
 use flow::DIMS;
-use head::Answer;
 use head::Shedder;
-use numbers::cause_of;
-use numbers::cut_number;
-use numbers::judge_number;
-use own::on_watched;
-use read::read_row;
-use rows::cost_in;
-use rows::words_in;
 use sender::Unit;
-
-fn is_admitted(answer: Answer) -> bool
-    ensures { λ r. ⌜ r ≡ replay.is-admitted answer ⌝ }
-{
-    match answer {
-        Answer::Admitted => true,
-        Answer::OverShare => false,
-        Answer::RelayRate => false,
-        Answer::Refused(_) => false,
-    }
-}
-
-// The cost, or nothing.
-fn counted_if(on: bool, cost: [u64; DIMS]) -> [u64; DIMS]
-    ensures { λ r. ⌜ r ≡ replay.counted-if on cost ⌝ }
-{
-    if on {
-        return cost;
-    }
-    [0u64; DIMS]
-}
-
-// What a call leaves, the number of its refusal (0 for none), what it admits, what of that on the watched unit's own record, and what it hands back.
-struct Turned {
-    head: Shedder,
-    number: u64,
-    admitted: [u64; DIMS],
-    admitted_on: [u64; DIMS],
-    handed: [u64; DIMS],
-}
-
-fn judge_row(
-    head: Shedder,
-    hashes: &mut [u64],
-    units: &mut [[u64; 7]],
-    uses: &mut [[f64; 2 * DIMS]],
-    counts: &mut [[u32; 768]; DIMS],
-    sums: &mut [[f64; 768]; DIMS],
-    counted: &mut [[u64; 8]],
-    watched: Unit,
-    row: [u64; 7 + DIMS],
-) -> Turned
-    ensures { λ r. ⌜ replay.Turns watched (calls.state-of head (judging.memory (store.rows (now (hashes .entry)) (now (units .entry)) (now (uses .entry))) (wants.hist (now (counts .entry)) (now (sums .entry))) (now (counted .entry)))) (replay.judge-in row) r (calls.state-of (r .head) (judging.memory (store.rows (now (hashes .exit)) (now (units .exit)) (now (uses .exit))) (wants.hist (now (counts .exit)) (now (sums .exit))) (now (counted .exit)))) ⌝ }
-{
-    let unit = sender::unit_of(words_in(row));
-    let cost = cost_in(row);
-    let stamp = row[6];
-    let mine = on_watched(head, hashes, units, watched, unit);
-    let judged = shed::judge(
-        head,
-        hashes,
-        units,
-        uses,
-        counts,
-        sums,
-        counted,
-        unit,
-        cost,
-        stamp,
-    );
-    let answer = judged.answer;
-    let left = judged.head;
-    let number = judge_number(answer);
-    let goes = is_admitted(answer);
-    let admitted = counted_if(goes, cost);
-    let admitted_on = counted_if(mine, admitted);
-    let handed = [0u64; DIMS];
-    Turned {
-        head: left,
-        number,
-        admitted,
-        admitted_on,
-        handed,
-    }
-}
-
-fn cut_row(
-    head: Shedder,
-    hashes: &mut [u64],
-    units: &mut [[u64; 7]],
-    uses: &mut [[f64; 2 * DIMS]],
-    counted: &mut [[u64; 8]],
-    row: [u64; 7 + DIMS],
-) -> Turned
-    ensures { λ r. ⌜ ((watched : unit.Unit) (g : Hist) → replay.Turns watched (calls.state-of head (judging.memory (store.rows (now (hashes .entry)) (now (units .entry)) (now (uses .entry))) g (now (counted .entry)))) (replay.cut-in row) r (calls.state-of (r .head) (judging.memory (store.rows (now (hashes .exit)) (now (units .exit)) (now (uses .exit))) g (now (counted .exit))))) ⌝ }
-{
-    let unit = sender::unit_of(words_in(row));
-    let cost = cost_in(row);
-    let cause = cause_of(row[6]);
-    let cut = cut::cut(head, hashes, units, uses, counted, unit, cause, cost);
-    let answer = cut.answer;
-    let left = cut.head;
-    let number = cut_number(answer);
-    let place = head::index_of(cause);
-    let handed = counted_if(place == 0, cost);
-    let none = [0u64; DIMS];
-    Turned {
-        head: left,
-        number,
-        admitted: none,
-        admitted_on: none,
-        handed,
-    }
-}
-
-// A reading leaves the head as it was and amounts to nothing.
-fn turned_by_reading(head: Shedder, number: u64) -> Turned
-    ensures { λ r. ⌜ r .head ≡ head ⌝ }
-    ensures { λ r. ⌜ ((watched : unit.Unit) (m : Memory) (q : calls.Reading) → number ≡ calls.read-number (calls.state-of head m) q → replay.Turns watched (calls.state-of head m) (calls.Read q) r (calls.state-of (r .head) m)) ⌝ }
-{
-    let none = [0u64; DIMS];
-    Turned {
-        head,
-        number,
-        admitted: none,
-        admitted_on: none,
-        handed: none,
-    }
-}
-
-// One row.
-fn turn(
-    head: Shedder,
-    hashes: &mut [u64],
-    units: &mut [[u64; 7]],
-    uses: &mut [[f64; 2 * DIMS]],
-    counts: &mut [[u32; 768]; DIMS],
-    sums: &mut [[f64; 768]; DIMS],
-    counted: &mut [[u64; 8]],
-    watched: Unit,
-    row: [u64; 7 + DIMS],
-    out: &mut [u8],
-) -> Turned
-    ensures { λ r. ⌜ replay.Turns watched (calls.state-of head (judging.memory (store.rows (now (hashes .entry)) (now (units .entry)) (now (uses .entry))) (wants.hist (now (counts .entry)) (now (sums .entry))) (now (counted .entry)))) (replay.call-in row (now (out .entry))) r (calls.state-of (r .head) (judging.memory (store.rows (now (hashes .exit)) (now (units .exit)) (now (uses .exit))) (wants.hist (now (counts .exit)) (now (sums .exit))) (now (counted .exit)))) ⌝ }
-    ensures { λ r. ⌜ now (out .exit) ≡ replay.page-after (calls.state-of head (judging.memory (store.rows (now (hashes .entry)) (now (units .entry)) (now (uses .entry))) (wants.hist (now (counts .entry)) (now (sums .entry))) (now (counted .entry)))) (replay.call-in row (now (out .entry))) (now (out .entry)) ⌝ }
-{
-    let which = row[0];
-    if which == 0 {
-        return judge_row(
-            head,
-            hashes,
-            units,
-            uses,
-            counts,
-            sums,
-            counted,
-            watched,
-            row,
-        );
-    }
-    if which == 1 {
-        return cut_row(head, hashes, units, uses, counted, row);
-    }
-    let number = read_row(head, hashes, units, uses, counted, row, out);
-    turned_by_reading(head, number)
-}
+use turns::Turned;
 
 // Sums in each dimension, modulo 2^64.
 fn sums(xs: [u64; DIMS], ys: [u64; DIMS]) -> [u64; DIMS]
@@ -279,7 +109,7 @@ pub fn replay(
     while i < list.len() {
         let row = list[i];
         let held = run.head;
-        let turned = turn(
+        let turned = turns::turn(
             held,
             hashes,
             units,

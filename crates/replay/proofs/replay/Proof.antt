@@ -7,9 +7,9 @@ use Rattle.store.specs.Store.{rows}
 use Rattle.wants.specs.Wants.{hist}
 use Rattle.shed.specs.Judging.{memory}
 use Rattle.fair.specs.Calls.{state-of, state, events, admitted, handed, own, admitted-on}
-use Rattle.replay.specs.Replay.{totals, run as steps}
-use Rattle.replay.proofs.Turning.{headed, run-none, page-none, list-next, page-next, run-next}
-use Rattle.replay.proofs.Totals.{totals-none, totals-next, taken-none, taken-next}
+use Rattle.turns.specs.Replay.{totals, run as steps}
+use Rattle.turns.proofs.Turning.{headed, run-none, page-none, list-next, page-next, run-next}
+use Rattle.turns.proofs.Totals.{totals-none, totals-next, taken-none, taken-next}
 use Rattle.replay.proofs.Bounds.{relay-of, share-of}
 use Rattle.replay.proofs.replay.Statement.{statement}
 use Rattle.replay.proofs.replay.Tie as tie

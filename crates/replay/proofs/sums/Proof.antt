@@ -1,4 +1,4 @@
-use Rattle.replay.specs.Replay.{sums}
+use Rattle.turns.specs.Replay.{sums}
 use lib.ListN.{getD, replicate}
 use Rattle.flow.proofs.Parts.{upto-none, upto-next}
 use Rattle.flow.specs.Flow.{dims, upto}

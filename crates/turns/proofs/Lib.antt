@@ -1,0 +1,5 @@
+pub mod Turning
+pub mod Watched
+pub mod Totals
+pub mod Amounts
+pub mod Reading

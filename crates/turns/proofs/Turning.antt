@@ -1,0 +1,72 @@
+-- The call of a row, by the row's first word; one row more in the list. Assumes nothing.
+use mathlib.Core.Path.{_≡_, refl, ap, subst, _∙_}
+use mathlib.Core.Bool.{true, false}
+use mathlib.Core.List.{List, [], _∷_}
+use Prim.Native.Nat.{ℕ, _+_}
+use native.Mathlib.Numerals.{add-one}
+use lib.Dec.{eqb}
+use lib.ListN.{getD}
+use Rattle.sender.specs.declared.Unit as unit
+use Rattle.head.specs.declared.Shedder.{Shedder}
+use Rattle.shed.specs.Judging.{Memory}
+use Rattle.fair.specs.Calls as calls
+use Rattle.fair.specs.Calls.{State, Call, Read}
+use Rattle.turns.specs.declared.Turned.{Turned}
+use Rattle.turns.specs.Replay.{judge-in, cut-in, reading-in, call-in, page-after, read-page, run-after, run, Turns}
+
+pub call-judge : (row page : List ℕ) → eqb (getD row 0 0) 0 ≡ true → judge-in row ≡ call-in row page
+unfolding call-in
+call-judge row page e = rw e
+
+pub call-cut : (row page : List ℕ) → eqb (getD row 0 0) 0 ≡ false → eqb (getD row 0 0) 1 ≡ true → cut-in row ≡ call-in row page
+unfolding call-in
+call-cut row page e f = rw (e, f)
+
+pub call-read : (row page : List ℕ) → eqb (getD row 0 0) 0 ≡ false → eqb (getD row 0 0) 1 ≡ false → Read (reading-in row page) ≡ call-in row page
+unfolding call-in
+call-read row page e f = rw (e, f)
+
+pub turns-as : (watched : unit.Unit) (s : State) (c d : Call) (r : Turned) (t : State) → c ≡ d → Turns watched s c r t → Turns watched s d r t
+turns-as watched s c d r t e f = subst (λ (x : Call). Turns watched s x r t) e f
+
+-- ---- the buffer: only a reading can write it
+pub judge-page : (s : State) (row page : List ℕ) (c : Call) → judge-in row ≡ c → page ≡ page-after s c page
+unfolding judge-in
+judge-page s row page c e = ap (λ (x : Call). page-after s x page) e
+
+pub cut-page : (s : State) (row page : List ℕ) (c : Call) → cut-in row ≡ c → page ≡ page-after s c page
+unfolding cut-in
+cut-page s row page c e = ap (λ (x : Call). page-after s x page) e
+
+pub read-page-is : (s : State) (row page out : List ℕ) (c : Call) → Read (reading-in row page) ≡ c → out ≡ read-page s (reading-in row page) page → out ≡ page-after s c page
+read-page-is s row page out c e f = f ∙ ap (λ (x : Call). page-after s x page) e
+
+-- ---- the list
+pub headed : (x y : Shedder) (m : Memory) (s : State) → x ≡ y → calls.state-of y m ≡ s → calls.state-of x m ≡ s
+headed x y m s e f = ap (λ (z : Shedder). calls.state-of z m) e ∙ f
+
+module _ (first : State) (page : List ℕ) (rows : List (List ℕ)) where
+  pub run-none : first ≡ calls.state first (run first page rows 0 .list)
+  unfolding calls.state run
+  run-none = refl
+
+  pub page-none : page ≡ run first page rows 0 .page
+  unfolding run
+  page-none = refl
+
+  -- the buffer out is what the rows before left
+  pub list-next : (i : ℕ) (out : List ℕ) → out ≡ run first page rows i .page → call-in (getD rows i []) out ∷ run first page rows i .list ≡ run first page rows (i + 1) .list
+  unfolding run run-after
+  list-next i out e = rw add-one (ap (λ (x : List ℕ). call-in (getD rows i []) x ∷ run first page rows i .list) e)
+
+  pub page-next : (i : ℕ) (out left : List ℕ) (s : State) → out ≡ run first page rows i .page → s ≡ calls.state first (run first page rows i .list) → left ≡ page-after s (call-in (getD rows i []) out) out
+      → left ≡ run first page rows (i + 1) .page
+  unfolding run run-after
+  page-next i out left s e es f =
+      rw add-one
+      (f ∙ ap (λ (x : State). page-after x (call-in (getD rows i []) out) out) es
+      ∙ ap (λ (x : List ℕ). page-after (calls.state first (run first page rows i .list)) (call-in (getD rows i []) x) x) e)
+
+pub run-next : (first s t : State) (h k : List Call) (c : Call) → c ∷ h ≡ k → s ≡ calls.state first h → t ≡ calls.step s c → t ≡ calls.state first k
+unfolding calls.state
+run-next first s t h k c ek es f = f ∙ ap (λ (x : State). calls.step x c) es ∙ ap (calls.state first) ek

@@ -1,0 +1,84 @@
+-- Whether a judgement uses the watched unit's own record, as the program asks it before: that of the judgement, unless it is refused. Assumes nothing.
+use mathlib.Core.Path.{_≡_, refl, sym, ap, _∙_, subst}
+use mathlib.Core.Bool.{Bool, true, false, cond}
+use mathlib.Core.List.{List}
+use Prim.Native.Nat.{ℕ, _+_, _≤_}
+use native.Mathlib.Omega.{arith}
+use borrow.Author.Tests.{ltb-true, lt-ltb, le-ltb, eqb-true}
+use lib.Dec.{T, eqb, ltb}
+use lib.ListN.{length}
+use Rattle.sender.specs.declared.Unit as unit
+use Rattle.sender.specs.Sender as sender
+use Rattle.sender.specs.Sender.{Tells}
+use Rattle.sender.proofs.Naming.{name-injective}
+use Rattle.flow.specs.Flow as flow
+use Rattle.store.specs.Store as store
+use Rattle.store.specs.Store.{Rows}
+use Rattle.head.specs.declared.Shedder.{Shedder}
+use Rattle.head.specs.declared.Answer.the-variants as answer
+use Rattle.head.specs.Answers.{judge-number}
+use Rattle.head.specs.Numbers.{choose}
+use Rattle.head.specs.Questions.{is-unbounded, judge-asked}
+use Rattle.head.proofs.Asked.{asked-ready}
+use Rattle.entry.specs.Entering.{entry, entered, place, is-misplaced}
+use Rattle.shed.specs.Judging as judging
+use Rattle.shed.specs.Judging.{Memory, Judged, judge-ends, bounded}
+use Rattle.fair.specs.Calls as calls
+use Rattle.fair.proofs.View as view
+use Rattle.turns.specs.Replay.{own-used, on-watched}
+
+-- ---- the same unit
+told : (w u : unit.Unit) (r b : Bool) → calls.same-name (sender.name-of w) (sender.name-of u) ≡ b → Tells r (w ≡ u) → r ≡ b
+told w u true true e t = refl
+told w u false false e t = refl
+told w u true false e t =
+    absurd (subst T e (subst (λ (v : unit.Unit). T (calls.same-name (sender.name-of w) (sender.name-of v))) (t .shows refl) (view.same-self (view.named (sender.name-of w)))))
+told w u false true e t = t .shown (name-injective w u (ap (λ (n : view.Name). n .name) (view.same-is (view.named (sender.name-of w)) (view.named (sender.name-of u)) (subst T (sym e) tt))))
+
+pub same-told : (w u : unit.Unit) (r : Bool) → Tells r (w ≡ u) → r ≡ calls.same-name (sender.name-of w) (sender.name-of u)
+same-told w u r t = told w u r _ refl t
+
+-- ---- the record that is used
+own-by : (m m' : Rows) (i tracked room hashes units : ℕ) (over found fits : Bool) → ltb i tracked ≡ found → ltb tracked room ≡ fits → hashes ≡ room → units ≡ room → tracked ≤ room
+    → cond over false (cond fits true (cond (ltb hashes tracked) false (cond (ltb units tracked) false found)))
+    ≡ ltb (choose over (entered (place room tracked) m) (choose found (entered (place i tracked) m) (choose fits (entered (place tracked (tracked + 1)) m') (entered (place room tracked) m))) .place .at) room
+own-by m m' i tracked room hashes units true found fits ef et eh eu l = sym (le-ltb room room (omega arith))
+own-by m m' i tracked room hashes units false true true ef et eh eu l = sym (lt-ltb i room (omega (arith, l, ltb-true i tracked ef)))
+own-by m m' i tracked room hashes units false true false ef et eh eu l =
+    rw (le-ltb hashes tracked (omega (arith, l, eh)), le-ltb units tracked (omega (arith, l, eu))) (sym (lt-ltb i room (omega (arith, l, ltb-true i tracked ef))))
+own-by m m' i tracked room hashes units false false true ef et eh eu l = sym (lt-ltb tracked room (ltb-true tracked room et))
+own-by m m' i tracked room hashes units false false false ef et eh eu l =
+    rw (le-ltb hashes tracked (omega (arith, l, eh)), le-ltb units tracked (omega (arith, l, eu))) (sym (le-ltb room room (omega arith)))
+
+own-is : (m : Rows) (tracked room : ℕ) (u : unit.Unit) (now : ℕ) → length (m .hashes) ≡ room → length (m .units) ≡ room → tracked ≤ room
+    → own-used (m .hashes) (m .units) tracked room u ≡ ltb (entry m tracked room u now .place .at) room
+unfolding own-used entry
+own-is m tracked room u now eh eu l =
+    own-by m (store.added m tracked (sender.name-of u) (flow.added now)) (store.find (m .hashes) (m .units) (sender.name-of u) tracked) tracked room (length (m .hashes)) (length (m .units)) (sender.is-overflow u) _ _ refl refl eh eu l
+
+keyed : (b : Bool) (w u : unit.Unit) → cond b (calls.same-name (sender.name-of w) (sender.name-of u)) false ≡ calls.same-key (calls.own w) (calls.key-at b u)
+keyed true w u = refl
+keyed false w u = refl
+
+-- ---- not refused: questions 3 and 4 were answered yes
+asked-by : (h : Shedder) (m : Memory) (n : ℕ) (a : Bool) (x : Judged) → eqb n 0 ≡ a → judge-number (choose a x (judge-ends (answer.Refused n) h m) .answer) ≡ 0 → n ≡ 0
+unfolding judge-number
+asked-by h m n true x e f = eqb-true n 0 e
+asked-by h m n false x e f = f
+
+asked : (h : Shedder) (m : Memory) (u : unit.Unit) (cost : List ℕ) (t : ℕ) → judge-number (judging.judge h m u cost t .answer) ≡ 0
+    → judge-asked h (length (m .rows .hashes)) (length (m .rows .units)) (length (m .rows .uses)) (length (m .counted)) cost t ≡ 0
+unfolding judging.judge
+asked h m u cost t f =
+    asked-by h m (judge-asked h (length (m .rows .hashes)) (length (m .rows .units)) (length (m .rows .uses)) (length (m .counted)) cost t) _
+    (choose (is-unbounded (h .flow .rate)) (judge-ends answer.Admitted h m)
+    (choose (is-misplaced (m .rows .hashes) (m .rows .units) (h .tracked) (sender.name-of u)) (judge-ends (answer.Refused 9) h m) (bounded h m u cost t)))
+    refl f
+
+pub watched-is : (h : Shedder) (m : Memory) (u : unit.Unit) (cost : List ℕ) (t : ℕ) (w : unit.Unit) → judge-number (judging.judge h m u cost t .answer) ≡ 0
+    → on-watched (m .rows .hashes) (m .rows .units) (h .tracked) (h .«unit_room») w u ≡ calls.same-key (calls.own w) (calls.key (calls.state-of h m) u (calls.now (calls.state-of h m) t))
+unfolding on-watched
+watched-is h m u cost t w f =
+    let r = asked-ready h (length (m .rows .hashes)) (length (m .rows .units)) (length (m .rows .uses)) (length (m .counted)) cost t (asked h m u cost t f) in
+    ap (λ (b : Bool). cond b (calls.same-name (sender.name-of w) (sender.name-of u)) false) (own-is (m .rows) (h .tracked) (h .«unit_room») u (calls.now (calls.state-of h m) t) (r .hashes-room) (r .units-room) (r .tracked-held))
+    ∙ keyed (ltb (entry (m .rows) (h .tracked) (h .«unit_room») u (calls.now (calls.state-of h m) t) .place .at) (h .«unit_room»)) w u

@@ -1,0 +1,75 @@
+use Rattle.turns.proofs.Amounts.{row-cut, cut-left, cut-number-is, cut-admits, cut-on, cut-hands}
+use borrow.Author.Needs.{needs}
+use Rattle.turns.proofs.cut_row.Statement.{statement}
+use Rattle.turns.proofs.cut_row.Tie as tie
+
+words-in-requires : tie.Need-words-in-requires
+words-in-requires c κs = search needs
+
+unit-of-requires : tie.Need-unit-of-requires
+unit-of-requires c κs = search needs
+
+cost-in-requires : tie.Need-cost-in-requires
+cost-in-requires c κs = search needs
+
+array-read-cause-of : tie.Need-array-read-cause-of
+array-read-cause-of c = search needs
+
+cause-of-requires : tie.Need-cause-of-requires
+cause-of-requires c κs = search needs
+
+cut-requires : tie.Need-cut-requires
+cut-requires c κs = search needs
+
+cut-number-requires : tie.Need-cut-number-requires
+cut-number-requires c κs = search needs
+
+index-of-requires : tie.Need-index-of-requires
+index-of-requires c κs = search needs
+
+counted-if-requires : tie.Need-counted-if-requires
+counted-if-requires c κs = search needs
+
+same-length : tie.Need-same-length
+same-length c = search needs
+
+same-length-2 : tie.Need-same-length-2
+same-length-2 c = search needs
+
+same-length-3 : tie.Need-same-length-3
+same-length-3 c = search needs
+
+same-length-4 : tie.Need-same-length-4
+same-length-4 c = search needs
+
+returns : tie.Need-returns
+returns c =
+    let cut = c .before .before .before .before .before .before .before .before .before .cut .ensures .0 in
+    let cost = c .before .before .before .before .before .before .before .before .before .before .before .before .before .before .before .cost-in .ensures in
+    let k = row-cut _ _ _ _ _ (c .before .before .before .before .before .before .before .before .before .before .before .before .before .before .before .before .before .words-in .ensures) (c .before .before .before .before .before .before .before .before .before .before .before .before .before .before .before .before .unit-of .ensures) cost (c .before .before .before .before .before .before .before .before .before .before .before .before .before .before .cause-of .ensures) in
+    λ watched g. record {
+      left = cut-left _ _ g _ _ _ _ _ _ _ _ k cut;
+      number = cut-number-is _ _ g _ _ _ _ _ _ _ _ k cut _ (c .before .before .cut-number .ensures);
+      admitted = cut-admits _ _ g _ _ _ _ _ _ _ _ k cut;
+      handed = cut-hands _ _ g _ _ _ _ _ _ _ _ k cut _ _ cost (c .before .index-of .ensures .0) (c .counted-if .ensures);
+      admitted-on = λ z. cut-on _ _ g _ _ _ _ _ _ _ _ k cut watched;
+    }
+
+pub cut-row-spec : {M : Type 1} → statement M
+cut-row-spec =
+    tie.close
+    (tie.spec
+    words-in-requires
+    unit-of-requires
+    cost-in-requires
+    array-read-cause-of
+    cause-of-requires
+    cut-requires
+    cut-number-requires
+    index-of-requires
+    counted-if-requires
+    same-length
+    same-length-2
+    same-length-3
+    same-length-4
+    returns)

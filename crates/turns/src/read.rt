@@ -1,0 +1,65 @@
+// A row that only reads: the number of its refusal, and what it leaves in the report's buffer.
+ghost use mathlib.Core.Path.{_≡_};
+ghost use Rattle.store.specs.Store as store;
+ghost use Rattle.wants.specs.Wants.{Hist};
+ghost use Rattle.shed.specs.Judging as judging;
+ghost use Rattle.shed.specs.Judging.{Memory};
+ghost use Rattle.fair.specs.Calls as calls;
+ghost use Rattle.turns.specs.Replay as replay;
+use flow::DIMS;
+use head::Shedder;
+use numbers::bounded_number;
+use numbers::cause_of;
+use numbers::dim_of;
+use numbers::level_number;
+use numbers::rate_number;
+use numbers::reading_number;
+use numbers::report_number;
+
+// A reading of the head alone.
+fn head_read(head: Shedder, which: u64, n: u64) -> u64
+    ensures { λ r. ⌜ ((m : Memory) → r ≡ calls.read-number (calls.state-of head m) (replay.head-reading which n)) ⌝ }
+{
+    if which == 4 {
+        let count = readings::cut_batches(head, cause_of(n));
+        return reading_number(count);
+    }
+    if which == 5 {
+        let visited = readings::visited(head);
+        return reading_number(visited);
+    }
+    if which == 6 {
+        let level = readings::level(head, dim_of(n));
+        return level_number(level);
+    }
+    if which == 7 {
+        let rate = readings::rate(head, dim_of(n));
+        return rate_number(rate);
+    }
+    let bounded = readings::is_bounded(head);
+    bounded_number(bounded)
+}
+
+// A report into out, the call beside it, or a reading of the head.
+pub fn read_row(
+    head: Shedder,
+    hashes: &[u64],
+    units: &[[u64; 7]],
+    uses: &[[f64; 2 * DIMS]],
+    counted: &[[u64; 8]],
+    row: [u64; 7 + DIMS],
+    out: &mut [u8],
+) -> u64
+    ensures { λ r. ⌜ ((g : Hist) → r ≡ calls.read-number (calls.state-of head (judging.memory (store.rows (now (hashes .entry)) (now (units .entry)) (now (uses .entry))) g (now (counted .entry)))) (replay.reading-in row (now (out .entry)))) ⌝ }
+    ensures { λ r. ⌜ ((g : Hist) → now (out .exit) ≡ replay.read-page (calls.state-of head (judging.memory (store.rows (now (hashes .entry)) (now (units .entry)) (now (uses .entry))) g (now (counted .entry)))) (replay.reading-in row (now (out .entry))) (now (out .entry))) ⌝ }
+{
+    let which = row[0];
+    if which == 2 {
+        let written = report::write_report(head, hashes, units, uses, counted, out);
+        return report_number(written);
+    }
+    if which == 3 {
+        return report::report_refusal(head, hashes, units, uses, counted, out);
+    }
+    head_read(head, which, row[6])
+}
