@@ -1,5 +1,5 @@
 //! Declarations for a Rust program that links `target/staticlib/libtankpost.a` (made by `rt staticlib tankpost`), and the
-//! calls over memory that the program holds. The structs are those of crates/flow, head, sender and tankpost, field by field.
+//! calls over memory that the program holds. The structs are those of crates/flow, head, sender, numbers and tankpost, field by field.
 
 pub const DIMS: usize = 2;
 pub const CAUSES: usize = 3;

@@ -1,5 +1,5 @@
 // Document 01's cases at the edges, run through the real functions: the cases that crate `cases` proves of the definitions, the
-// cases that are only run, and every refusal. Number 9 is not here: shed/proofs/Nine proves that no call is refused by it.
+// cases that are only run, and every refusal. Number 9 is not here: entry/proofs/Nine proves that no call is refused by it.
 mod calls;
 mod steps;
 

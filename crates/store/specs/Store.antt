@@ -100,6 +100,7 @@ find hashes units name n = first (is-at hashes units name) n
 abbrev pub None : (ℕ → Bool) → ℕ → ℕ → Type 0
 None p i j = (k : ℕ) → i ≤ k → k < j → p k ≡ false
 
+-- the lower 32 bits of a word: hashes that differ there differ
 abbrev pub lower : ℕ → ℕ
 lower word = word % 2 ^ 32
 
