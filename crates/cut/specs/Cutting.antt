@@ -46,7 +46,7 @@ abbrev pub kept-by : Shedder → Rows → KeptBy
 kept-by h m = record { head = h; rows = m }
 
 abbrev pub handed-with : Shedder → List Float → Entered → Back → KeptBy
-handed-with h cost e b = kept-by (headed h (flowed-back (h .flow) cost) (b .overflow) (e .place .tracked)) (rows (e .rows .hashes) (b .units) (b .uses))
+handed-with h cost e b = kept-by (headed h (flowed-back (h .flow) cost) (b .overflow) (e .place .tracked)) (rows (e .rows .tags) (b .units) (b .uses))
 
 abbrev pub handed-at : Shedder → List Float → Entered → KeptBy
 handed-at h cost e =
@@ -94,8 +94,8 @@ cut-after k u c cost s = cut-noted (s .rows) (noted (tally (s .head) k) (sender.
 -- THE CUT: the first question answered no gives its number and nothing changes; question 9 is asked where a record is sought
 unfoldable pub cut : Shedder → Rows → List (List ℕ) → unit.Unit → Cause → List ℕ → Cut
 cut h m k u c cost =
-    choose (eqb (cut-asked h (length (m .hashes)) (length (m .units)) (length (m .uses)) (length k) cost) 0)
+    choose (eqb (cut-asked h (length (m .tags)) (length (m .units)) (length (m .uses)) (length k) cost) 0)
     (choose (hands-back (h .flow .rate) c)
-    (choose (is-misplaced (m .hashes) (m .units) (h .tracked) (sender.name-of u)) (cut-ends (done.Refused 9) h m k) (cut-after k u c cost (handed-back (kept-by h m) u (flow.numbers cost))))
+    (choose (is-misplaced (m .tags) (m .units) (h .tracked) (sender.name-of u)) (cut-ends (done.Refused 9) h m k) (cut-after k u c cost (handed-back (kept-by h m) u (flow.numbers cost))))
     (cut-after k u c cost (kept-by h m)))
-    (cut-ends (done.Refused (cut-asked h (length (m .hashes)) (length (m .units)) (length (m .uses)) (length k) cost)) h m k)
+    (cut-ends (done.Refused (cut-asked h (length (m .tags)) (length (m .units)) (length (m .uses)) (length k) cost)) h m k)

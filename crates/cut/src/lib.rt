@@ -68,7 +68,7 @@ fn flowed_back(f: Flow, cost: [f64; DIMS]) -> Flow
 // All of a batch is handed back.
 fn handed_back(
     head: Shedder,
-    hashes: &mut [u64],
+    tags: &mut [u16],
     units: &mut [[u64; 7]],
     uses: &mut [[f64; 2 * DIMS]],
     unit: Unit,
@@ -76,20 +76,20 @@ fn handed_back(
     i: usize,
     cost: [f64; DIMS],
 ) -> Shedder
-    requires { ⌜ length (now hashes) ≡ head .«unit_room» ⌝ }
+    requires { ⌜ length (now tags) ≡ head .«unit_room» ⌝ }
     requires { ⌜ length (now units) ≡ head .«unit_room» ⌝ }
     requires { ⌜ length (now uses) ≡ head .«unit_room» ⌝ }
     requires { ⌜ head .tracked ≤ head .«unit_room» ⌝ }
     requires { ⌜ name ≡ sender.name-of unit ⌝ }
-    requires { ⌜ i ≡ store.find (now hashes) (now units) name (head .tracked) ⌝ }
-    ensures { λ r. ⌜ cutting.kept-by r (store.rows (now (hashes .exit)) (now (units .exit)) (now (uses .exit))) ≡ cutting.handed-back (cutting.kept-by head (store.rows (now (hashes .entry)) (now (units .entry)) (now (uses .entry)))) unit cost ⌝ }
+    requires { ⌜ i ≡ store.find (now tags) (now units) name (head .tracked) ⌝ }
+    ensures { λ r. ⌜ cutting.kept-by r (store.rows (now (tags .exit)) (now (units .exit)) (now (uses .exit))) ≡ cutting.handed-back (cutting.kept-by head (store.rows (now (tags .entry)) (now (units .entry)) (now (uses .entry)))) unit cost ⌝ }
     ensures { λ r. ⌜ r .counted ≡ head .counted ⌝ }
 {
     let f = head.flow;
     let room = head.unit_room;
     let overflow = head.overflow;
     let p = entry::entry(
-        hashes,
+        tags,
         units,
         uses,
         head.tracked,
@@ -133,7 +133,7 @@ fn noted(
 // A cut made elsewhere, counted with the rest; for the receiver's ceiling all of the batch is given back. A refusal changes nothing.
 pub fn cut(
     head: Shedder,
-    hashes: &mut [u64],
+    tags: &mut [u16],
     units: &mut [[u64; 7]],
     uses: &mut [[f64; 2 * DIMS]],
     counted: &mut [[u64; 8]],
@@ -141,12 +141,12 @@ pub fn cut(
     cause: Cause,
     cost: [u64; DIMS],
 ) -> Cutting
-    ensures { λ r. ⌜ cutting.cutting r (store.rows (now (hashes .exit)) (now (units .exit)) (now (uses .exit))) (now (counted .exit)) ≡ cutting.cut head (store.rows (now (hashes .entry)) (now (units .entry)) (now (uses .entry))) (now (counted .entry)) unit cause cost ⌝ }
-    ensures { λ r. ⌜ answers.cut-number (r .answer) ≡ asked.cut-asked head (length (now (hashes .entry))) (length (now (units .entry))) (length (now (uses .entry))) (length (now (counted .entry))) cost ⌝ }
+    ensures { λ r. ⌜ cutting.cutting r (store.rows (now (tags .exit)) (now (units .exit)) (now (uses .exit))) (now (counted .exit)) ≡ cutting.cut head (store.rows (now (tags .entry)) (now (units .entry)) (now (uses .entry))) (now (counted .entry)) unit cause cost ⌝ }
+    ensures { λ r. ⌜ answers.cut-number (r .answer) ≡ asked.cut-asked head (length (now (tags .entry))) (length (now (units .entry))) (length (now (uses .entry))) (length (now (counted .entry))) cost ⌝ }
 {
     let no = head::cut_asked(
         head,
-        hashes.len(),
+        tags.len(),
         units.len(),
         uses.len(),
         counted.len(),
@@ -162,8 +162,8 @@ pub fn cut(
     let rate = f.rate;
     if hands_back(rate, cause) {
         let name = sender::name_of(unit);
-        let i = search::find(hashes, units, head.tracked, name);
-        if entry::is_misplaced(hashes, units, head.tracked, name, i) {
+        let i = search::find(tags, units, head.tracked, name);
+        if entry::is_misplaced(tags, units, head.tracked, name, i) {
             return Cutting {
                 answer: Done::Refused(9),
                 head,
@@ -171,7 +171,7 @@ pub fn cut(
         }
         let h = handed_back(
             head,
-            hashes,
+            tags,
             units,
             uses,
             unit,

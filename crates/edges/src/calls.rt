@@ -9,7 +9,7 @@ use tries::Tried;
 fn start(
     row: usize,
     head: Shedder,
-    hashes: &[u64],
+    tags: &[u16],
     units: &[[u64; 7]],
     uses: &[[f64; 2 * DIMS]],
     counts: &mut [[u32; 768]; DIMS],
@@ -18,7 +18,7 @@ fn start(
 ) -> Tried {
     let rate = tries::amounts(row);
     let none = [0; DIMS];
-    let s = head::start(head, hashes, units, uses, counts, sums, counted, rate, none);
+    let s = head::start(head, tags, units, uses, counts, sums, counted, rate, none);
     let answer = s.answer;
     let now = s.head;
     tries::after(numbers::start_number(answer), now)
@@ -29,7 +29,7 @@ fn judge(
     row: usize,
     call: u64,
     head: Shedder,
-    hashes: &mut [u64],
+    tags: &mut [u16],
     units: &mut [[u64; 7]],
     uses: &mut [[f64; 2 * DIMS]],
     counts: &mut [[u32; 768]; DIMS],
@@ -37,14 +37,14 @@ fn judge(
     counted: &mut [[u64; 8]],
 ) -> Tried {
     if call == 1 {
-        return start(row, head, hashes, units, uses, counts, sums, counted);
+        return start(row, head, tags, units, uses, counts, sums, counted);
     }
     let who = tries::unit(row);
     let cost = tries::amounts(row);
     let stamp = tries::value(row, tries::STAMP);
     let j = shed::judge(
         head,
-        hashes,
+        tags,
         units,
         uses,
         counts,
@@ -62,7 +62,7 @@ fn judge(
 fn cut(
     row: usize,
     head: Shedder,
-    hashes: &mut [u64],
+    tags: &mut [u16],
     units: &mut [[u64; 7]],
     uses: &mut [[f64; 2 * DIMS]],
     counted: &mut [[u64; 8]],
@@ -70,7 +70,7 @@ fn cut(
     let who = tries::unit(row);
     let cost = tries::amounts(row);
     let why = Cause::ReceiverCeiling;
-    let d = cut::cut(head, hashes, units, uses, counted, who, why, cost);
+    let d = cut::cut(head, tags, units, uses, counted, who, why, cost);
     let answer = d.answer;
     let now = d.head;
     tries::after(numbers::cut_number(answer), now)
@@ -81,7 +81,7 @@ fn cut(
 fn report(
     call: u64,
     head: Shedder,
-    hashes: &[u64],
+    tags: &[u16],
     units: &[[u64; 7]],
     uses: &[[f64; 2 * DIMS]],
     counted: &[[u64; 8]],
@@ -90,18 +90,18 @@ fn report(
     if call == 5 {
         return numbers::report_number(report::write_report(
             head,
-            hashes,
+            tags,
             units,
             uses,
             counted,
             out,
         ));
     }
-    let no = report::report_refusal(head, hashes, units, uses, counted, out);
+    let no = report::report_refusal(head, tags, units, uses, counted, out);
     if call == 6 {
         return no;
     }
-    let front = report::report(head, hashes, units, uses, counted, out);
+    let front = report::report(head, tags, units, uses, counted, out);
     if front.len() == 0 { no } else { DONE }
 }
 
@@ -124,7 +124,7 @@ const FIRST_LINE: u64 = 13;
 fn line(
     n: u64,
     head: Shedder,
-    hashes: &mut [u64],
+    tags: &mut [u16],
     units: &mut [[u64; 7]],
     uses: &mut [[f64; 2 * DIMS]],
     counts: &mut [[u32; 768]; DIMS],
@@ -148,7 +148,7 @@ fn line(
         is_started,
         at: 0,
     };
-    let a = trial::answer(t, hashes, units, uses, counts, sums, counted, line, out);
+    let a = trial::answer(t, tags, units, uses, counts, sums, counted, line, out);
     tries::line(line, out, a.at);
     let now = a.head;
     Tried {
@@ -164,15 +164,15 @@ fn aside(
     row: usize,
     call: u64,
     head: Shedder,
-    hashes: &mut [u64],
+    tags: &mut [u16],
     units: &mut [[u64; 7]],
     uses: &mut [[f64; 2 * DIMS]],
     counted: &mut [[u64; 8]],
     out: &mut [u8],
 ) -> Tried {
     match call {
-        3 => cut(row, head, hashes, units, uses, counted),
-        4..=6 => tries::after(report(call, head, hashes, units, uses, counted, out), head),
+        3 => cut(row, head, tags, units, uses, counted),
+        4..=6 => tries::after(report(call, head, tags, units, uses, counted, out), head),
         _ => tries::after(tries::reading(call, head), head),
     }
 }
@@ -181,7 +181,7 @@ fn aside(
 pub fn answered(
     row: usize,
     head: Shedder,
-    hashes: &mut [u64],
+    tags: &mut [u16],
     units: &mut [[u64; 7]],
     uses: &mut [[f64; 2 * DIMS]],
     counts: &mut [[u32; 768]; DIMS],
@@ -191,9 +191,9 @@ pub fn answered(
 ) -> Tried {
     let call = tries::letter(row, tries::CALL);
     match call {
-        1..=2 => judge(row, call, head, hashes, units, uses, counts, sums, counted),
-        3..=11 => aside(row, call, head, hashes, units, uses, counted, out),
+        1..=2 => judge(row, call, head, tags, units, uses, counts, sums, counted),
+        3..=11 => aside(row, call, head, tags, units, uses, counted, out),
         12 => tries::after(fill(counts, sums), head),
-        _ => line(call, head, hashes, units, uses, counts, sums, counted, out),
+        _ => line(call, head, tags, units, uses, counts, sums, counted, out),
     }
 }

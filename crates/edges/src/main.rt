@@ -9,7 +9,7 @@ use tries::UNITS;
 
 fn main() {
     tries::run();
-    let mut hashes = [0x0101010101010101u64; UNITS];
+    let mut tags = [0x0101010101010101u64; UNITS];
     let unit = [0x0202020202020202u64; 7];
     let mut units = [unit; UNITS];
     let used = [0.3; 2 * DIMS];
@@ -28,7 +28,7 @@ fn main() {
         let t = steps::tried(
             row,
             tries::unfit(head, row),
-            &mut hashes,
+            &mut tags,
             &mut units,
             &mut uses,
             &mut counts,

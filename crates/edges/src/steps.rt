@@ -11,7 +11,7 @@ use tries::UNITS;
 fn lent(
     row: usize,
     head: Shedder,
-    hashes: &mut [u64],
+    tags: &mut [u16],
     units: &mut [[u64; 7]],
     uses: &mut [[f64; 2 * DIMS]],
     counts: &mut [[u32; 768]; DIMS],
@@ -19,7 +19,7 @@ fn lent(
     counted: &mut [[u64; 8]],
     out: &mut [u8],
 ) -> Tried {
-    let h = tries::digit(row, tries::HASHES, hashes.len());
+    let h = tries::digit(row, tries::HASHES, tags.len());
     let u = tries::digit(row, tries::UNITS_LENT, units.len());
     let s = tries::digit(row, tries::USES, uses.len());
     let k = tries::digit(row, tries::COUNTED_LENT, counted.len());
@@ -27,7 +27,7 @@ fn lent(
     calls::answered(
         row,
         head,
-        &mut hashes[..h],
+        &mut tags[..h],
         &mut units[..u],
         &mut uses[..s],
         counts,
@@ -41,14 +41,14 @@ fn lent(
 pub fn tried(
     row: usize,
     head: Shedder,
-    hashes: &mut [u64; UNITS],
+    tags: &mut [u16; UNITS],
     units: &mut [[u64; 7]; UNITS],
     uses: &mut [[f64; 2 * DIMS]; UNITS],
     counts: &mut [[u32; 768]; DIMS],
     sums: &mut [[f64; 768]; DIMS],
     counted: &mut [[u64; 8]; COUNTED],
 ) -> Tried {
-    let was_hashes = *hashes;
+    let was_tags = *tags;
     let was_units = *units;
     let was_uses = *uses;
     let was_counts = *counts;
@@ -58,7 +58,7 @@ pub fn tried(
     let mut t = lent(
         row,
         head,
-        hashes,
+        tags,
         units,
         uses,
         counts,
@@ -67,13 +67,13 @@ pub fn tried(
         &mut out,
     );
     let memory = tries::memory(
-        hashes,
+        tags,
         units,
         uses,
         counts,
         sums,
         counted,
-        &was_hashes,
+        &was_tags,
         &was_units,
         &was_uses,
         &was_counts,

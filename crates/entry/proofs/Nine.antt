@@ -27,8 +27,8 @@ never true true f = refl
 never true false f = sym (f refl)
 never false c f = refl
 
-pub never-nine : (hashes : List ℕ) (units : List (List ℕ)) (n : ℕ) (name : Name) → is-misplaced hashes units n name ≡ false
+pub never-nine : (tags : List ℕ) (units : List (List ℕ)) (n : ℕ) (name : Name) → is-misplaced tags units n name ≡ false
 unfolding is-misplaced find
-never-nine hashes units n name =
-    never (ltb (first (is-at hashes units name) n) n) (is-at hashes units name (first (is-at hashes units name) n))
-    (λ e. first-holds (is-at hashes units name) n (ltb-true (first (is-at hashes units name) n) n e))
+never-nine tags units n name =
+    never (ltb (first (is-at tags units name) n) n) (is-at tags units name (first (is-at tags units name) n))
+    (λ e. first-holds (is-at tags units name) n (ltb-true (first (is-at tags units name) n) n e))

@@ -20,8 +20,8 @@ use Rattle.head.specs.Numbers.{choose}
 
 -- question 9 answered no: one of the n records was found for the name, and is another's
 unfoldable pub is-misplaced : List ℕ → List (List ℕ) → ℕ → Name → Bool
-is-misplaced hashes units n name =
-    cond (ltb (store.find hashes units name n) n) (cond (store.is-at hashes units name (store.find hashes units name n)) false true) false
+is-misplaced tags units n name =
+    cond (ltb (store.find tags units name n) n) (cond (store.is-at tags units name (store.find tags units name n)) false true) false
 
 -- a place, and the rows
 pub record Entered : Type 0 where
@@ -38,7 +38,7 @@ place i n = record { at = i; tracked = n }
 unfoldable pub entry : Rows → ℕ → ℕ → unit.Unit → ℕ → Entered
 entry m tracked room u now =
     choose (sender.is-overflow u) (entered (place room tracked) m)
-    (choose (ltb (store.find (m .hashes) (m .units) (sender.name-of u) tracked) tracked) (entered (place (store.find (m .hashes) (m .units) (sender.name-of u) tracked) tracked) m)
+    (choose (ltb (store.find (m .tags) (m .units) (sender.name-of u) tracked) tracked) (entered (place (store.find (m .tags) (m .units) (sender.name-of u) tracked) tracked) m)
     (choose (ltb tracked room) (entered (place tracked (tracked + 1)) (store.added m tracked (sender.name-of u) (flow.added now))) (entered (place room tracked) m)))
 
 -- the use at a place: a record's, or overflow's

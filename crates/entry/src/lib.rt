@@ -11,14 +11,14 @@ use sender::Name;
 use sender::Unit;
 
 // Question 9: the record found for the unit, where there is one, is the unit's. The search was made, and gave i.
-pub fn is_misplaced(hashes: &[u64], units: &[[u64; 7]], n: usize, name: Name, i: usize) -> bool
-    requires { ⌜ n ≤ length (now hashes) ⌝ }
+pub fn is_misplaced(tags: &[u16], units: &[[u64; 7]], n: usize, name: Name, i: usize) -> bool
+    requires { ⌜ n ≤ length (now tags) ⌝ }
     requires { ⌜ n ≤ length (now units) ⌝ }
-    requires { ⌜ i ≡ store.find (now hashes) (now units) name n ⌝ }
-    ensures { λ r. ⌜ r ≡ entering.is-misplaced (now (hashes .entry)) (now (units .entry)) n name ⌝ }
+    requires { ⌜ i ≡ store.find (now tags) (now units) name n ⌝ }
+    ensures { λ r. ⌜ r ≡ entering.is-misplaced (now (tags .entry)) (now (units .entry)) n name ⌝ }
 {
     if i < n {
-        if search::is_at(hashes, units, i, name) {
+        if search::is_at(tags, units, i, name) {
             return false;
         }
         return true;
@@ -34,7 +34,7 @@ pub struct Place {
 
 // The unit's record; a new one, stamped with the clock, where there is room; else overflow's. The search was made, and gave i.
 pub fn entry(
-    hashes: &mut [u64],
+    tags: &mut [u16],
     units: &mut [[u64; 7]],
     uses: &mut [[f64; 2 * DIMS]],
     tracked: usize,
@@ -44,13 +44,13 @@ pub fn entry(
     i: usize,
     clock: u64,
 ) -> Place
-    requires { ⌜ length (now hashes) ≡ room ⌝ }
+    requires { ⌜ length (now tags) ≡ room ⌝ }
     requires { ⌜ length (now units) ≡ room ⌝ }
     requires { ⌜ length (now uses) ≡ room ⌝ }
     requires { ⌜ tracked ≤ room ⌝ }
     requires { ⌜ name ≡ sender.name-of unit ⌝ }
-    requires { ⌜ i ≡ store.find (now hashes) (now units) name tracked ⌝ }
-    ensures { λ r. ⌜ entering.entered r (store.rows (now (hashes .exit)) (now (units .exit)) (now (uses .exit))) ≡ entering.entry (store.rows (now (hashes .entry)) (now (units .entry)) (now (uses .entry))) tracked room unit clock ⌝ }
+    requires { ⌜ i ≡ store.find (now tags) (now units) name tracked ⌝ }
+    ensures { λ r. ⌜ entering.entered r (store.rows (now (tags .exit)) (now (units .exit)) (now (uses .exit))) ≡ entering.entry (store.rows (now (tags .entry)) (now (units .entry)) (now (uses .entry))) tracked room unit clock ⌝ }
     ensures { λ r. ⌜ r .tracked ≤ room ⌝ }
 {
     if sender::is_overflow(unit) {
@@ -60,7 +60,7 @@ pub fn entry(
         return Place { at: i, tracked };
     }
     if tracked < room {
-        store::add(hashes, units, uses, tracked, name, Use::new(clock));
+        store::add(tags, units, uses, tracked, name, Use::new(clock));
         return Place {
             at: tracked,
             tracked: tracked + 1,

@@ -104,7 +104,7 @@ module _ (room : ℕ) where
   listed-next m n = pass.listed-next room m n
 
   -- ---- a record added at the end of the live ones
-  module _ (m : Rows) (n : ℕ) (w : Name) (u : Use) (whole : Whole u) (hi : n < length (m .hashes)) (hu : n < length (m .units)) (hs : n < length (m .uses)) where
+  module _ (m : Rows) (n : ℕ) (w : Name) (u : Use) (whole : Whole u) (hi : n < length (m .tags)) (hu : n < length (m .units)) (hs : n < length (m .uses)) where
     pub added-other : (j : ℕ) → (j ≡ n → ⊥) → Same (added m n w u) j m j
     unfolding Same added
     added-other j h = (rw getD-set-other, rw getD-set-other, rw getD-set-other)
@@ -113,7 +113,7 @@ module _ (room : ℕ) where
     unfolding view.record-at added words-at use-at
     added-there =
         let r = w .words .kind ∷ w .words .a ∷ w .words .b ∷ w .words .c ∷ w .words .d ∷ u .«at_ms» ∷ mark (u .fresh) ∷ [] in
-        let d : getD (set (m .hashes) n (w .hash)) n 0 ≡ w .hash = getD-set-same (m .hashes) n (w .hash) 0 hi in
+        let d : getD (set (m .tags) n (w .tag)) n 0 ≡ w .tag = getD-set-same (m .tags) n (w .tag) 0 hi in
         let e : getD (set (m .units) n r) n [] ≡ r = getD-set-same (m .units) n r [] hu in
         let f : getD (set (m .uses) n (joined (u .attempted) (u .credit))) n [] ≡ joined (u .attempted) (u .credit) = getD-set-same (m .uses) n _ [] hs in
         simp (d, e, f, low (u .attempted) (u .credit) (whole .attempted), high (u .attempted) (u .credit) (whole .credit), fresh-back (u .fresh))
@@ -125,15 +125,15 @@ module _ (room : ℕ) where
         ∙ ap (λ (r : R′). listed m n ++ (r ∷ [])) added-there
 
   -- ---- a use put at a place of the live ones: that record has the use, every other record is as it was
-  module _ (m : Rows) (i : ℕ) (u : Use) (whole : Whole u) (hi : i < length (m .hashes)) (hu : i < length (m .units)) (hs : i < length (m .uses)) (seven : length (getD (m .units) i []) ≡ 7) where
+  module _ (m : Rows) (i : ℕ) (u : Use) (whole : Whole u) (hi : i < length (m .tags)) (hu : i < length (m .units)) (hs : i < length (m .uses)) (seven : length (getD (m .units) i []) ≡ 7) where
     abbrev putted : Rows
-    putted = rows (m .hashes) (units-put (m .units) i u) (uses-put (m .uses) i u)
+    putted = rows (m .tags) (units-put (m .units) i u) (uses-put (m .uses) i u)
 
     put-other : (j : ℕ) → (j ≡ i → ⊥) → Same putted j m j
     unfolding Same units-put uses-put
     put-other j h = (refl, rw getD-set-other, rw getD-set-other)
 
-    pub put-elsewhere : (j : ℕ) → (j ≡ i → ⊥) → record-at (rows (m .hashes) (units-put (m .units) i u) (uses-put (m .uses) i u)) j ≡ record-at m j
+    pub put-elsewhere : (j : ℕ) → (j ≡ i → ⊥) → record-at (rows (m .tags) (units-put (m .units) i u) (uses-put (m .uses) i u)) j ≡ record-at m j
     put-elsewhere j h = record-same putted j m j (put-other j h)
 
     words-kept : words-at (units-put (m .units) i u) i ≡ words-at (m .units) i
@@ -145,8 +145,8 @@ module _ (room : ℕ) where
         λ k h. getD-set-other (set r 5 (u .«at_ms»)) 6 k (mark (u .fresh)) 0 (λ q. absurd (omega arith)) ∙ getD-set-other r 5 k (u .«at_ms») 0 (λ q. absurd (omega arith)) in
         simp (e, o 0 (omega arith), o 1 (omega arith), o 2 (omega arith), o 3 (omega arith), o 4 (omega arith))
 
-    pub put-there : record-at (rows (m .hashes) (units-put (m .units) i u) (uses-put (m .uses) i u)) i ≡ row (view.name-at (m .hashes) (m .units) i) u
+    pub put-there : record-at (rows (m .tags) (units-put (m .units) i u) (uses-put (m .uses) i u)) i ≡ row (view.name-at (m .tags) (m .units) i) u
     unfolding view.record-at
     put-there =
-        ap (λ (w : Words). row (record { hash = getD (m .hashes) i 0; words = w }) (use-at (units-put (m .units) i u) (uses-put (m .uses) i u) i)) words-kept
-        ∙ ap (λ (x : Use). row (view.name-at (m .hashes) (m .units) i) x) (put-back-read (m .units) (m .uses) i u whole hu hs seven)
+        ap (λ (w : Words). row (record { hash = getD (m .tags) i 0; words = w }) (use-at (units-put (m .units) i u) (uses-put (m .uses) i u) i)) words-kept
+        ∙ ap (λ (x : Use). row (view.name-at (m .tags) (m .units) i) x) (put-back-read (m .units) (m .uses) i u whole hu hs seven)

@@ -54,9 +54,9 @@ verdict-taken verdict.RelayRate = refl
 judge-kept : (h : Shedder) (m : Memory) (u : unit.Unit) (cost : List ℕ) (t : ℕ) → calls.refused (calls.state-of h m) (Judge u cost t) ≡ true → calls.state-of (shed.judge h m u cost t .head) (shed.judge h m u cost t .memory) ≡ calls.state-of h m
 unfolding shed.judge
 judge-kept h m u cost t f =
-    go (shed.judge-asked h (length (m .rows .hashes)) (length (m .rows .units)) (length (m .rows .uses)) (length (m .counted)) cost t)
-    (eqb (shed.judge-asked h (length (m .rows .hashes)) (length (m .rows .units)) (length (m .rows .uses)) (length (m .counted)) cost t) 0)
-    (shed.is-unbounded (h .flow .rate)) (shed.is-misplaced (m .rows .hashes) (m .rows .units) (h .tracked) (sender.name-of u)) f
+    go (shed.judge-asked h (length (m .rows .tags)) (length (m .rows .units)) (length (m .rows .uses)) (length (m .counted)) cost t)
+    (eqb (shed.judge-asked h (length (m .rows .tags)) (length (m .rows .units)) (length (m .rows .uses)) (length (m .counted)) cost t) 0)
+    (shed.is-unbounded (h .flow .rate)) (shed.is-misplaced (m .rows .tags) (m .rows .units) (h .tracked) (sender.name-of u)) f
   where
     taken : ltb 0 (shed.judge-number (shed.bounded h m u cost t .answer)) ≡ false
     taken = unfold shed.bounded in (verdict-taken (shed.judged h (m .rows) u (shed.numbers cost) (max t (h .flow .«at_ms»)) .verdict))
@@ -88,9 +88,9 @@ cut-kept : (h : Shedder) (m : Memory) (u : unit.Unit) (c : Cause) (cost : List �
 unfolding shed.cut shed.noted shed.cut-number
 cut-kept h m u c cost f =
     cut-chosen h m (shed.cut-after (m .counted) u c cost (shed.handed-back (shed.kept-by h (m .rows)) u (shed.numbers cost))) (shed.cut-after (m .counted) u c cost (shed.kept-by h (m .rows))) refl refl
-    (shed.cut-asked h (length (m .rows .hashes)) (length (m .rows .units)) (length (m .rows .uses)) (length (m .counted)) cost)
-    (eqb (shed.cut-asked h (length (m .rows .hashes)) (length (m .rows .units)) (length (m .rows .uses)) (length (m .counted)) cost) 0) (shed.hands-back (h .flow .rate) c)
-    (shed.is-misplaced (m .rows .hashes) (m .rows .units) (h .tracked) (sender.name-of u)) f
+    (shed.cut-asked h (length (m .rows .tags)) (length (m .rows .units)) (length (m .rows .uses)) (length (m .counted)) cost)
+    (eqb (shed.cut-asked h (length (m .rows .tags)) (length (m .rows .units)) (length (m .rows .uses)) (length (m .counted)) cost) 0) (shed.hands-back (h .flow .rate) c)
+    (shed.is-misplaced (m .rows .tags) (m .rows .units) (h .tracked) (sender.name-of u)) f
 
 -- ---- answers and verdicts
 if-same : (v : Verdict) (x : ℕ) → calls.if-admitted (shed.answer-of v) x ≡ cond (is-admitted v) x 0
@@ -267,7 +267,7 @@ module _ (room : ℕ) (rate ceiling : List ℕ) (rates : shed.all-rates rate ≡
       let m = s .memory .rows in
       let n = s .head .tracked in
       let w = sender.name-of u in
-      there-is (ltb (store.find (m .hashes) (m .units) w n) n) (store.use-at (m .units) (m .uses) (store.find (m .hashes) (m .units) w n))
+      there-is (ltb (store.find (m .tags) (m .units) w n) n) (store.use-at (m .units) (m .uses) (store.find (m .tags) (m .units) w n))
       ∙ ap demand.there (sym (finding.sought room m w n)) ∙ ap (λ (rs : List (view.R room)). demand.there (model.find Name same shares room (named w) rs)) (b .rows-is)
     where
       there-is : (c : Bool) (x : Use) → c ≡ demand.there (view.choose room c (demand.present x) demand.absent)
@@ -416,4 +416,4 @@ module _ (room : ℕ) (rate ceiling : List ℕ) (rates : shed.all-rates rate ≡
 
 -- THE THEOREM
 pub demand-three : Claim
-demand-three was m rate ceiling rates e = demanded (length (m .rows .hashes)) rate ceiling rates (calls.left was m rate ceiling) (left-tied was m rate ceiling rates e)
+demand-three was m rate ceiling rates e = demanded (length (m .rows .tags)) rate ceiling rates (calls.left was m rate ceiling) (left-tied was m rate ceiling rates e)

@@ -121,14 +121,14 @@ chosen h m k n to x y true false c q f = (refl, refl)
 chosen h m k n to x y false b c q f = absurd (true≢false (sym (eq-eqb n 0 (let z : n ≡ 0 = omega (arith, ltb-false 0 n f) in z)) ∙ q))
 
 pub record Taken (h : Shedder) (m : Rows) (k : List (List ℕ)) (u : unit.Unit) (c : Cause) (cost : List ℕ) : Type 0 where
-  pub asked : shed.cut-asked h (length (m .hashes)) (length (m .units)) (length (m .uses)) (length k) cost ≡ 0
+  pub asked : shed.cut-asked h (length (m .tags)) (length (m .units)) (length (m .uses)) (length k) cost ≡ 0
   pub is : shed.cut h m k u c cost ≡ shed.cut-after k u c cost (cut-on h m u c cost)
 
 pub taken : (h : Shedder) (m : Rows) (k : List (List ℕ)) (u : unit.Unit) (c : Cause) (cost : List ℕ) → ltb 0 (shed.cut-number (shed.cut h m k u c cost .answer)) ≡ false → Taken h m k u c cost
 unfolding shed.cut
 taken h m k u c cost f =
-    let n = shed.cut-asked h (length (m .hashes)) (length (m .units)) (length (m .uses)) (length k) cost in
-    let r = chosen h m k n (shed.cut-after k u c cost) (shed.handed-back (shed.kept-by h m) u (shed.numbers cost)) (shed.kept-by h m) (eqb n 0) (shed.hands-back (h .flow .rate) c) (shed.is-misplaced (m .hashes) (m .units) (h .tracked) (sender.name-of u)) refl f in
+    let n = shed.cut-asked h (length (m .tags)) (length (m .units)) (length (m .uses)) (length k) cost in
+    let r = chosen h m k n (shed.cut-after k u c cost) (shed.handed-back (shed.kept-by h m) u (shed.numbers cost)) (shed.kept-by h m) (eqb n 0) (shed.hands-back (h .flow .rate) c) (shed.is-misplaced (m .tags) (m .units) (h .tracked) (sender.name-of u)) refl f in
     record { asked = eqb-true n 0 (r .0); is = r .1 }
 
 pub cut-costs : (h : Shedder) (i u s k : ℕ) (cost : List ℕ) → shed.cut-asked h i u s k cost ≡ 0 → shed.costs-held cost ≡ true
@@ -146,8 +146,8 @@ module _ (room : ℕ) (rate : List ℕ) (rates : shed.all-rates rate ≡ true) (
 
   cut-held : Held room (m .rows) (h .tracked)
   cut-held =
-      let r = cut-ready h (length (m .rows .hashes)) (length (m .rows .units)) (length (m .rows .uses)) (length (m .counted)) cost (took .asked) in
-      record { hashes = r .hashes-room ∙ b .room-is; units = r .units-room ∙ b .room-is; uses = r .uses-room ∙ b .room-is; few = le-trans (r .tracked-held) (le-of-eq (b .room-is)); wide = b .wide }
+      let r = cut-ready h (length (m .rows .tags)) (length (m .rows .units)) (length (m .rows .uses)) (length (m .counted)) cost (took .asked) in
+      record { tags = r .tags-room ∙ b .room-is; units = r .units-room ∙ b .room-is; uses = r .uses-room ∙ b .room-is; few = le-trans (r .tracked-held) (le-of-eq (b .room-is)); wide = b .wide }
 
   cut-bound : Bound room rate h (m .rows) st (h .flow .«at_ms»)
   cut-bound = record { tied = b; held = cut-held }
@@ -164,7 +164,7 @@ module _ (room : ℕ) (rate : List ℕ) (rates : shed.all-rates rate ≡ true) (
   cut-tied = cut-after .tied
 
   pub cut-small : (d : ℕ) → d < dims → getD cost d 0 ≤ 2 ^ 40
-  cut-small = small-costs cost (cut-costs h (length (m .rows .hashes)) (length (m .rows .units)) (length (m .rows .uses)) (length (m .counted)) cost (took .asked))
+  cut-small = small-costs cost (cut-costs h (length (m .rows .tags)) (length (m .rows .units)) (length (m .rows .uses)) (length (m .counted)) cost (took .asked))
 
   -- the record that it uses is the model's
   pub cut-key : judging.resolve room rate st u ≡ entry.lift room (calls.key (calls.state-of h m) u (h .flow .«at_ms»))

@@ -43,11 +43,11 @@ pub new-whole : (now : ℕ) → Whole (flow.added now)
 new-whole now = record { attempted = length-replicate dims nothing; credit = length-replicate dims nothing }
 
 -- ---- lengths and widths
-put-long : (m : Rows) (i : ℕ) (x : Use) → Long (rows (m .hashes) (units-put (m .units) i x) (uses-put (m .uses) i x)) m
+put-long : (m : Rows) (i : ℕ) (x : Use) → Long (rows (m .tags) (units-put (m .units) i x) (uses-put (m .uses) i x)) m
 unfolding units-put uses-put
-put-long m i x = record { hashes = refl; units = length-set (m .units) i _; uses = length-set (m .uses) i _ }
+put-long m i x = record { tags = refl; units = length-set (m .units) i _; uses = length-set (m .uses) i _ }
 
-put-wide : (m : Rows) (n i : ℕ) (x : Use) → i < length (m .units) → Wide 7 m n → i < n → Wide 7 (rows (m .hashes) (units-put (m .units) i x) (uses-put (m .uses) i x)) n
+put-wide : (m : Rows) (n i : ℕ) (x : Use) → i < length (m .units) → Wide 7 m n → i < n → Wide 7 (rows (m .tags) (units-put (m .units) i x) (uses-put (m .uses) i x)) n
 unfolding Wide units-put
 put-wide m n i x hu wide l j h = elim (ℕ-discrete j i) [
   | yes q ↦ ap (λ (k : ℕ). length (getD (set (m .units) i (set (set (unit-row (m .units) i) 5 (x .«at_ms»)) 6 (mark (x .fresh)))) k [])) q
@@ -57,7 +57,7 @@ put-wide m n i x hu wide l j h = elim (ℕ-discrete j i) [
 
 added-long : (m : Rows) (i : ℕ) (w : sender-name.Name) (x : Use) → Long (store.added m i w x) m
 unfolding store.added
-added-long m i w x = record { hashes = length-set (m .hashes) i _; units = length-set (m .units) i _; uses = length-set (m .uses) i _ }
+added-long m i w x = record { tags = length-set (m .tags) i _; units = length-set (m .units) i _; uses = length-set (m .uses) i _ }
 
 added-wide : (m : Rows) (n : ℕ) (w : sender-name.Name) (x : Use) → n < length (m .units) → Wide 7 m n → Wide 7 (store.added m n w x) (n + 1)
 unfolding Wide store.added
@@ -67,10 +67,10 @@ added-wide m n w x hu wide j h = elim (ℕ-discrete j n) [
 ]
 
 long-join : {x y z : Rows} → Long x y → Long y z → Long x z
-long-join p q = record { hashes = p .hashes ∙ q .hashes; units = p .units ∙ q .units; uses = p .uses ∙ q .uses }
+long-join p q = record { tags = p .tags ∙ q .tags; units = p .units ∙ q .units; uses = p .uses ∙ q .uses }
 
 long-self : (x : Rows) → Long x x
-long-self x = record { hashes = refl; units = refl; uses = refl }
+long-self x = record { tags = refl; units = refl; uses = refl }
 
 module _ (room : ℕ) where
   abbrev pub S : Type 0
@@ -92,14 +92,14 @@ module _ (room : ℕ) where
 
   -- memory of the room's lengths, with n live records
   pub record Held (m : Rows) (n : ℕ) : Type 0 where
-    pub hashes : length (m .hashes) ≡ room
+    pub tags : length (m .tags) ≡ room
     pub units : length (m .units) ≡ room
     pub uses : length (m .uses) ≡ room
     pub few : n ≤ room
     pub wide : Wide 7 m n
 
   held-long : (m m' : Rows) (n k : ℕ) → Held m n → Long m' m → k ≤ room → Wide 7 m' k → Held m' k
-  held-long m m' n k h l f w = record { hashes = l .hashes ∙ h .hashes; units = l .units ∙ h .units; uses = l .uses ∙ h .uses; few = f; wide = w }
+  held-long m m' n k h l f w = record { tags = l .tags ∙ h .tags; units = l .units ∙ h .units; uses = l .uses ∙ h .uses; few = f; wide = w }
 
   module _ (m : Rows) (n : ℕ) (o : Use) (k : K) where
     -- what a use put back leaves
@@ -113,7 +113,7 @@ module _ (room : ℕ) where
       pub used : shed.used-at (e .rows .units) (e .rows .uses) o (e .place .at) ≡ found (model.look Name same shares room k (viewed b m n o)) now
       pub whole : Whole (shed.used-at (e .rows .units) (e .rows .uses) o (e .place .at))
       pub back : (x : Use) → Whole x
-          → After x (rows (e .rows .hashes) (shed.put-back (e .rows .units) (e .rows .uses) o (e .place .at) x .units) (shed.put-back (e .rows .units) (e .rows .uses) o (e .place .at) x .uses)) (e .place .tracked)
+          → After x (rows (e .rows .tags) (shed.put-back (e .rows .units) (e .rows .uses) o (e .place .at) x .units) (shed.put-back (e .rows .units) (e .rows .uses) o (e .place .at) x .uses)) (e .place .tracked)
           (shed.put-back (e .rows .units) (e .rows .uses) o (e .place .at) x .overflow)
 
   module _ (b : ℕ → Bucket) (m : Rows) (n : ℕ) (o : Use) (ho : Whole o) (hold : Held m n) (u : unit.Unit) (now : ℕ) where
@@ -121,7 +121,7 @@ module _ (room : ℕ) where
     w = sender.name-of u
 
     abbrev i : ℕ
-    i = store.find (m .hashes) (m .units) w n
+    i = store.find (m .tags) (m .units) w n
 
     -- ---- overflow's record
     at-shared : Placed m n o model.shared b u now (shed.entered (shed.place room n) m)
@@ -149,7 +149,7 @@ module _ (room : ℕ) where
           used = rw (f, s);
           whole = rw f (read-whole (m .units) (m .uses) i);
           back = λ x hx. rw f (record {
-            list = sym (finding.put-found room m w x hx n (omega (arith, hold .hashes, hold .few)) (omega (arith, hold .units, hold .few)) (omega (arith, hold .uses, hold .few)) (hold .wide) n (omega arith) l);
+            list = sym (finding.put-found room m w x hx n (omega (arith, hold .tags, hold .few)) (omega (arith, hold .units, hold .few)) (omega (arith, hold .uses, hold .few)) (hold .wide) n (omega arith) l);
             over = refl;
             held = held-long m _ n n hold (put-long m i x) (hold .few) (put-wide m n i x (omega (arith, hold .units, hold .few)) (hold .wide) l);
           });
@@ -160,8 +160,8 @@ module _ (room : ℕ) where
       abbrev new : Rows
       new = store.added m n w (flow.added now)
 
-      hi : n < length (m .hashes)
-      hi = omega (arith, hold .hashes)
+      hi : n < length (m .tags)
+      hi = omega (arith, hold .tags)
 
       hu : n < length (m .units)
       hu = omega (arith, hold .units)
@@ -185,14 +185,14 @@ module _ (room : ℕ) where
       new-held : Held new (n + 1)
       new-held = held-long m new n (n + 1) hold (added-long m n w (flow.added now)) (omega arith) (added-wide m n w (flow.added now) hu (hold .wide))
 
-      put-new : (x : Use) → Whole x → listed (rows (new .hashes) (units-put (new .units) n x) (uses-put (new .uses) n x)) (n + 1) ≡ model.put Name same shares room (named w) x (listed m n)
+      put-new : (x : Use) → Whole x → listed (rows (new .tags) (units-put (new .units) n x) (uses-put (new .uses) n x)) (n + 1) ≡ model.put Name same shares room (named w) x (listed m n)
       put-new x hx =
-          let a : n + 1 ≤ length (new .hashes) = omega (arith, new-held .hashes) in
+          let a : n + 1 ≤ length (new .tags) = omega (arith, new-held .tags) in
           let b : n + 1 ≤ length (new .units) = omega (arith, new-held .units) in
           let c : n + 1 ≤ length (new .uses) = omega (arith, new-held .uses) in
           let small : n < n + 1 = omega arith in
-          pass.listed-next room (rows (new .hashes) (units-put (new .units) n x) (uses-put (new .uses) n x)) n
-          ∙ ap (λ (xs : List (view.R room)). xs ++ (view.record-at room (rows (new .hashes) (units-put (new .units) n x) (uses-put (new .uses) n x)) n ∷ []))
+          pass.listed-next room (rows (new .tags) (units-put (new .units) n x) (uses-put (new .uses) n x)) n
+          ∙ ap (λ (xs : List (view.R room)). xs ++ (view.record-at room (rows (new .tags) (units-put (new .units) n x) (uses-put (new .uses) n x)) n ∷ []))
           (finding.before room new w x hx (n + 1) a b c (new-held .wide) n small n (omega arith) ∙ before-new)
           ∙ ap (λ (y : view.R room). listed m n ++ (y ∷ []))
           (finding.in-place room new w x hx (n + 1) a b c (new-held .wide) n small ∙ ap (λ (y : view.R room). record { name = y .name; used = x }) new-there)

@@ -74,10 +74,10 @@ module _ (room : ℕ) where
 
   module _ (m : Rows) (w : sender-name.Name) where
     abbrev F : ℕ → ℕ
-    F n = first (is-at (m .hashes) (m .units) w) n
+    F n = first (is-at (m .tags) (m .units) w) n
 
     -- the test of the search is that of the names
-    at-is : (j : ℕ) → is-at (m .hashes) (m .units) w j ≡ same (named w) (record-at m j .name)
+    at-is : (j : ℕ) → is-at (m .tags) (m .units) w j ≡ same (named w) (record-at m j .name)
     unfolding is-at view.record-at words-at
     at-is j = refl
 
@@ -89,28 +89,28 @@ module _ (room : ℕ) where
     seek-listed : (n : ℕ) → seek (named w) (listed m n) ≡ pick (ltb (F n) n) (present (use-at (m .units) (m .uses) (F n))) absent
     unfolding first view.listed
     seek-listed zero = refl
-    seek-listed (suc n) = seek-end (named w) (listed m n) (record-at m n) ∙ go (F n) (ltb (F n) n) refl (is-at (m .hashes) (m .units) w n) refl (seek-listed n)
+    seek-listed (suc n) = seek-end (named w) (listed m n) (record-at m n) ∙ go (F n) (ltb (F n) n) refl (is-at (m .tags) (m .units) w n) refl (seek-listed n)
       where
-        last : (b : Bool) → is-at (m .hashes) (m .units) w n ≡ b → seek (named w) (record-at m n ∷ []) ≡ pick b (present (use-at (m .units) (m .uses) n)) absent
+        last : (b : Bool) → is-at (m .tags) (m .units) w n ≡ b → seek (named w) (record-at m n ∷ []) ≡ pick b (present (use-at (m .units) (m .uses) n)) absent
         last b e = ap (λ (c : Bool). pick c (present (record-at m n .used)) absent) (sym (at-is n) ∙ e) ∙ ap (λ (x : Use). pick b (present x) absent) (used-is n)
 
-        go : (f : ℕ) (b : Bool) → ltb f n ≡ b → (c : Bool) → is-at (m .hashes) (m .units) w n ≡ c → seek (named w) (listed m n) ≡ pick b (present (use-at (m .units) (m .uses) f)) absent
+        go : (f : ℕ) (b : Bool) → ltb f n ≡ b → (c : Bool) → is-at (m .tags) (m .units) w n ≡ c → seek (named w) (listed m n) ≡ pick b (present (use-at (m .units) (m .uses) f)) absent
             → pick (there (seek (named w) (listed m n))) (seek (named w) (listed m n)) (seek (named w) (record-at m n ∷ []))
             ≡ pick (ltb (cond b f (cond c n (suc n))) (suc n)) (present (use-at (m .units) (m .uses) (cond b f (cond c n (suc n))))) absent
         go f true e c g i = let l : f < suc n = omega (arith, ltb-true f n e) in rw (i, lt-ltb f (suc n) l)
         go f false e true g i = let l : n < suc n = omega arith in rw (i, lt-ltb n (suc n) l) (last true g)
         go f false e false g i = rw (i, le-ltb (suc n) (suc n) (omega arith)) (last false g)
 
-    pub sought : (n : ℕ) → seek (named w) (listed m n) ≡ pick (ltb (find (m .hashes) (m .units) w n) n) (present (use-at (m .units) (m .uses) (find (m .hashes) (m .units) w n))) absent
+    pub sought : (n : ℕ) → seek (named w) (listed m n) ≡ pick (ltb (find (m .tags) (m .units) w n) n) (present (use-at (m .units) (m .uses) (find (m .tags) (m .units) w n))) absent
     unfolding find
     sought n = seek-listed n
 
     -- ---- putting a use back where it was found
     module _ (x : Use) (whole : Whole x) where
       abbrev putted : ℕ → Rows
-      putted i = rows (m .hashes) (units-put (m .units) i x) (uses-put (m .uses) i x)
+      putted i = rows (m .tags) (units-put (m .units) i x) (uses-put (m .uses) i x)
 
-      module _ (big : ℕ) (hi : big ≤ length (m .hashes)) (hu : big ≤ length (m .units)) (hs : big ≤ length (m .uses)) (wide : Wide 7 m big) where
+      module _ (big : ℕ) (hi : big ≤ length (m .tags)) (hu : big ≤ length (m .units)) (hs : big ≤ length (m .uses)) (wide : Wide 7 m big) where
         elsewhere : (i : ℕ) → i < big → (j : ℕ) → (j ≡ i → ⊥) → record-at (putted i) j ≡ record-at m j
         unfolding Wide
         elsewhere i h j q = back.put-elsewhere room m i x whole (omega arith) (omega arith) (omega arith) (wide i h) j q
@@ -125,9 +125,9 @@ module _ (room : ℕ) where
         put-listed : (n : ℕ) → n ≤ big → F n < n → put (named w) x (listed m n) ≡ listed (putted (F n)) n
         unfolding first view.listed
         put-listed zero l h = absurd (omega arith)
-        put-listed (suc n) l h = put-end (named w) x (listed m n) (record-at m n) ∙ go (F n) refl (ltb (F n) n) refl (is-at (m .hashes) (m .units) w n) refl (put-listed n (omega arith)) h
+        put-listed (suc n) l h = put-end (named w) x (listed m n) (record-at m n) ∙ go (F n) refl (ltb (F n) n) refl (is-at (m .tags) (m .units) w n) refl (put-listed n (omega arith)) h
           where
-            go : (f : ℕ) → F n ≡ f → (b : Bool) → ltb f n ≡ b → (c : Bool) → is-at (m .hashes) (m .units) w n ≡ c → (f < n → put (named w) x (listed m n) ≡ listed (putted f) n)
+            go : (f : ℕ) → F n ≡ f → (b : Bool) → ltb f n ≡ b → (c : Bool) → is-at (m .tags) (m .units) w n ≡ c → (f < n → put (named w) x (listed m n) ≡ listed (putted f) n)
                 → cond b f (cond c n (suc n)) < suc n
                 → pick (there (seek (named w) (listed m n))) (put (named w) x (listed m n) ++ (record-at m n ∷ [])) (listed m n ++ put (named w) x (record-at m n ∷ []))
                 ≡ listed (putted (cond b f (cond c n (suc n)))) n ++ (record-at (putted (cond b f (cond c n (suc n)))) n ∷ [])
@@ -140,6 +140,6 @@ module _ (room : ℕ) where
                 rw (s, sym (at-is n) ∙ g, before n (omega arith) n (omega arith), in-place n (omega arith))
             go f a false e false g i h = absurd (omega arith)
 
-        pub put-found : (n : ℕ) → n ≤ big → find (m .hashes) (m .units) w n < n → put (named w) x (listed m n) ≡ listed (putted (find (m .hashes) (m .units) w n)) n
+        pub put-found : (n : ℕ) → n ≤ big → find (m .tags) (m .units) w n < n → put (named w) x (listed m n) ≡ listed (putted (find (m .tags) (m .units) w n)) n
         unfolding find
         put-found n l h = put-listed n l h

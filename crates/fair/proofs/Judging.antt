@@ -99,7 +99,7 @@ module _ (room : ℕ) (rate : List ℕ) where
     pub headed-bound : (u : unit.Unit) (now : ℕ) (e : shed.Entered) → Placed room m (h .tracked) (h .overflow) (resolve st u) (st .bucket) u now e
         → (f : Flow) (x : Use) (t : demand.State) → Whole x → present x ≡ t .used → f .rate ≡ rate → clk ≤ f .«at_ms» → length (f .buckets) ≡ dims → ((d : ℕ) → d < dims → bucket-at (f .buckets) d ≡ t .bucket d)
         → Bound room rate (shed.headed h f (shed.put-back (e .rows .units) (e .rows .uses) (h .overflow) (e .place .at) x .overflow) (e .place .tracked))
-        (rows (e .rows .hashes) (shed.put-back (e .rows .units) (e .rows .uses) (h .overflow) (e .place .at) x .units) (shed.put-back (e .rows .units) (e .rows .uses) (h .overflow) (e .place .at) x .uses))
+        (rows (e .rows .tags) (shed.put-back (e .rows .units) (e .rows .uses) (h .overflow) (e .place .at) x .units) (shed.put-back (e .rows .units) (e .rows .uses) (h .overflow) (e .place .at) x .uses))
         (after (resolve st u) t st) (f .«at_ms»)
     headed-bound u now e p f x t hx ux fr fc fl fb =
         let a = p .back x hx in
@@ -250,7 +250,7 @@ not-unbounded rate e = go (shed.is-unbounded rate) refl
     go false f = f
 
 pub record Taken (h : Shedder) (m : Memory) (u : unit.Unit) (cost : List ℕ) (t : ℕ) : Type 0 where
-  pub asked : shed.judge-asked h (length (m .rows .hashes)) (length (m .rows .units)) (length (m .rows .uses)) (length (m .counted)) cost t ≡ 0
+  pub asked : shed.judge-asked h (length (m .rows .tags)) (length (m .rows .units)) (length (m .rows .uses)) (length (m .counted)) cost t ≡ 0
   pub is : shed.judge h m u cost t ≡ shed.bounded h m u cost t
 
 chosen : (h : Shedder) (m : Memory) (n : ℕ) (to : shed.Judged) (a b c : Bool) → eqb n 0 ≡ a → b ≡ false
@@ -265,8 +265,8 @@ chosen h m n to false b c q e f = absurd (true≢false (sym (eq-eqb n 0 (let z :
 pub taken : (h : Shedder) (m : Memory) (u : unit.Unit) (cost : List ℕ) (t : ℕ) → shed.is-unbounded (h .flow .rate) ≡ false → calls.refused (calls.state-of h m) (calls.Judge u cost t) ≡ false → Taken h m u cost t
 unfolding shed.judge
 taken h m u cost t unb f =
-    let n = shed.judge-asked h (length (m .rows .hashes)) (length (m .rows .units)) (length (m .rows .uses)) (length (m .counted)) cost t in
-    let r = chosen h m n (shed.bounded h m u cost t) (eqb n 0) (shed.is-unbounded (h .flow .rate)) (shed.is-misplaced (m .rows .hashes) (m .rows .units) (h .tracked) (sender.name-of u)) refl unb f in
+    let n = shed.judge-asked h (length (m .rows .tags)) (length (m .rows .units)) (length (m .rows .uses)) (length (m .counted)) cost t in
+    let r = chosen h m n (shed.bounded h m u cost t) (eqb n 0) (shed.is-unbounded (h .flow .rate)) (shed.is-misplaced (m .rows .tags) (m .rows .units) (h .tracked) (sender.name-of u)) refl unb f in
     record { asked = eqb-true n 0 (r .0); is = r .1 }
 
 -- question 5
@@ -293,8 +293,8 @@ module _ (room : ℕ) (rate : List ℕ) (rates : shed.all-rates rate ≡ true) (
 
   judge-held : Held room (m .rows) (h .tracked)
   judge-held =
-      let r = asked-ready h (length (m .rows .hashes)) (length (m .rows .units)) (length (m .rows .uses)) (length (m .counted)) cost t (took .asked) in
-      record { hashes = r .hashes-room ∙ b .room-is; units = r .units-room ∙ b .room-is; uses = r .uses-room ∙ b .room-is; few = le-trans (r .tracked-held) (le-of-eq (b .room-is)); wide = b .wide }
+      let r = asked-ready h (length (m .rows .tags)) (length (m .rows .units)) (length (m .rows .uses)) (length (m .counted)) cost t (took .asked) in
+      record { tags = r .tags-room ∙ b .room-is; units = r .units-room ∙ b .room-is; uses = r .uses-room ∙ b .room-is; few = le-trans (r .tracked-held) (le-of-eq (b .room-is)); wide = b .wide }
 
   judge-bound : Bound room rate h (m .rows) st (h .flow .«at_ms»)
   judge-bound = record { tied = b; held = judge-held }
@@ -312,10 +312,10 @@ module _ (room : ℕ) (rate : List ℕ) (rates : shed.all-rates rate ≡ true) (
   judge-answer = ap (λ (j : shed.Judged). j .answer) (took .is) ∙ bounded-answer room rate h m st judge-bound u cost t
 
   pub judge-stamp : t < 2 ^ 53
-  judge-stamp = asked-ready h (length (m .rows .hashes)) (length (m .rows .units)) (length (m .rows .uses)) (length (m .counted)) cost t (took .asked) .stamp-held
+  judge-stamp = asked-ready h (length (m .rows .tags)) (length (m .rows .units)) (length (m .rows .uses)) (length (m .counted)) cost t (took .asked) .stamp-held
 
   pub judge-small : (d : ℕ) → d < dims → getD cost d 0 ≤ 2 ^ 40
-  judge-small = small-costs cost (judge-costs h (length (m .rows .hashes)) (length (m .rows .units)) (length (m .rows .uses)) (length (m .counted)) cost t (took .asked))
+  judge-small = small-costs cost (judge-costs h (length (m .rows .tags)) (length (m .rows .units)) (length (m .rows .uses)) (length (m .counted)) cost t (took .asked))
 
   -- the record that it uses is the model's
   pub judge-key : resolve room rate st u ≡ entry.lift room (calls.key (calls.state-of h m) u (max t (h .flow .«at_ms»)))

@@ -93,12 +93,12 @@ first-holds p (suc n) l = go (store.first p n) (ltb (store.first p n) n) refl (p
     go f false e true g i l = g
     go f false e false g i l = absurd (omega arith)
 
-never-misplaced : (hashes : List ℕ) (units : List (List ℕ)) (n : ℕ) (name : Name) → shed.is-misplaced hashes units n name ≡ false
+never-misplaced : (tags : List ℕ) (units : List (List ℕ)) (n : ℕ) (name : Name) → shed.is-misplaced tags units n name ≡ false
 unfolding shed.is-misplaced store.find
-never-misplaced hashes units n name = go (ltb (store.first (store.is-at hashes units name) n) n) refl
+never-misplaced tags units n name = go (ltb (store.first (store.is-at tags units name) n) n) refl
   where
-    go : (b : Bool) → ltb (store.first (store.is-at hashes units name) n) n ≡ b → cond b (cond (store.is-at hashes units name (store.first (store.is-at hashes units name) n)) false true) false ≡ false
-    go true e = rw (first-holds (store.is-at hashes units name) n (ltb-true (store.first (store.is-at hashes units name) n) n e))
+    go : (b : Bool) → ltb (store.first (store.is-at tags units name) n) n ≡ b → cond b (cond (store.is-at tags units name (store.first (store.is-at tags units name) n)) false true) false ≡ false
+    go true e = rw (first-holds (store.is-at tags units name) n (ltb-true (store.first (store.is-at tags units name) n) n e))
     go false e = refl
 
 -- ---- calls that pass the questions are not refused
@@ -110,10 +110,10 @@ cut-asked-yes : (h : Shedder) (i u s k : ℕ) (cost : List ℕ) → shed.head-wh
 unfolding shed.cut-asked
 cut-asked-yes h i u s k cost a b c = rw (a, b, c)
 
-judge-open : (h : Shedder) (m : Memory) (u : unit.Unit) (cost : List ℕ) (t : ℕ) → shed.judge-asked h (length (m .rows .hashes)) (length (m .rows .units)) (length (m .rows .uses)) (length (m .counted)) cost t ≡ 0 → shed.is-unbounded (h .flow .rate) ≡ false
+judge-open : (h : Shedder) (m : Memory) (u : unit.Unit) (cost : List ℕ) (t : ℕ) → shed.judge-asked h (length (m .rows .tags)) (length (m .rows .units)) (length (m .rows .uses)) (length (m .counted)) cost t ≡ 0 → shed.is-unbounded (h .flow .rate) ≡ false
     → shed.judge h m u cost t ≡ shed.bounded h m u cost t
 unfolding shed.judge
-judge-open h m u cost t e f = rw (e, f, never-misplaced (m .rows .hashes) (m .rows .units) (h .tracked) (sender.name-of u))
+judge-open h m u cost t e f = rw (e, f, never-misplaced (m .rows .tags) (m .rows .units) (h .tracked) (sender.name-of u))
 
 bounded-taken : (h : Shedder) (m : Memory) (u : unit.Unit) (cost : List ℕ) (t : ℕ) → ltb 0 (shed.judge-number (shed.bounded h m u cost t .answer)) ≡ false
 unfolding shed.bounded
@@ -123,9 +123,9 @@ cut-picked : (b : Bool) (x y : shed.Cut) → ltb 0 (shed.cut-number (x .answer))
 cut-picked true x y p q = p
 cut-picked false x y p q = q
 
-cut-open : (h : Shedder) (m : Memory) (u : unit.Unit) (c : Cause) (cost : List ℕ) → shed.cut-asked h (length (m .rows .hashes)) (length (m .rows .units)) (length (m .rows .uses)) (length (m .counted)) cost ≡ 0 → calls.refused (calls.state-of h m) (Cut u c cost) ≡ false
+cut-open : (h : Shedder) (m : Memory) (u : unit.Unit) (c : Cause) (cost : List ℕ) → shed.cut-asked h (length (m .rows .tags)) (length (m .rows .units)) (length (m .rows .uses)) (length (m .counted)) cost ≡ 0 → calls.refused (calls.state-of h m) (Cut u c cost) ≡ false
 unfolding shed.cut shed.noted shed.cut-number
-cut-open h m u c cost e = rw (e, never-misplaced (m .rows .hashes) (m .rows .units) (h .tracked) (sender.name-of u))
+cut-open h m u c cost e = rw (e, never-misplaced (m .rows .tags) (m .rows .units) (h .tracked) (sender.name-of u))
     (cut-picked (shed.hands-back (h .flow .rate) c) (shed.cut-after (m .counted) u c cost (shed.handed-back (shed.kept-by h (m .rows)) u (shed.numbers cost))) (shed.cut-after (m .counted) u c cost (shed.kept-by h (m .rows))) refl refl)
 
 -- ---- every list
@@ -188,11 +188,11 @@ module _ (room size : ℕ) (rate ceiling : List ℕ) (rates : shed.all-rates rat
         head-yes (calls.state first h .head) rate room size (t .rate-is) rates (t .room-is) rooms (s .held .few) (s .low) (s .lasts .fine)
 
     memory-lasts : (h : List Call)
-        → shed.memory-whole (calls.state first h .head) (length (calls.state first h .memory .rows .hashes)) (length (calls.state first h .memory .rows .units)) (length (calls.state first h .memory .rows .uses)) (length (calls.state first h .memory .counted)) ≡ true
+        → shed.memory-whole (calls.state first h .head) (length (calls.state first h .memory .rows .tags)) (length (calls.state first h .memory .rows .units)) (length (calls.state first h .memory .rows .uses)) (length (calls.state first h .memory .counted)) ≡ true
     memory-lasts h =
         let t = real.whole room rate ceiling rates first b h .tie in
         let s = all-steady h in
-        memory-yes (calls.state first h .head) _ _ _ _ (s .held .hashes ∙ sym (t .room-is)) (s .held .units ∙ sym (t .room-is)) (s .held .uses ∙ sym (t .room-is)) (s .lasts .long ∙ sym (s .lasts .fine .room))
+        memory-yes (calls.state first h .head) _ _ _ _ (s .held .tags ∙ sym (t .room-is)) (s .held .units ∙ sym (t .room-is)) (s .held .uses ∙ sym (t .room-is)) (s .lasts .long ∙ sym (s .lasts .fine .room))
 
     pub lasting : Lasting first
     lasting = record {
@@ -229,11 +229,11 @@ started-asked : (n : ℕ) (h o : Shedder) (g k : wants.Hist) (a : Bool) → shed
 started-asked n h o g k true e = refl
 started-asked n h o g k false e = absurd (let z : _≡_ {A = ℕ} 0 1 = cc in omega arith)
 
-start-sizes : (was : Shedder) (m : Memory) (rate ceiling : List ℕ) → calls.starts was m rate ceiling .answer ≡ begin.Started → Sizes (length (m .rows .hashes)) (length (m .rows .units)) (length (m .rows .uses)) (length (m .counted))
+start-sizes : (was : Shedder) (m : Memory) (rate ceiling : List ℕ) → calls.starts was m rate ceiling .answer ≡ begin.Started → Sizes (length (m .rows .tags)) (length (m .rows .units)) (length (m .rows .uses)) (length (m .counted))
 unfolding shed.start
 start-sizes was m rate ceiling e =
-    let n = shed.start-asked rate (length (m .rows .hashes)) (length (m .rows .units)) (length (m .rows .uses)) (length (m .counted)) in
-    asked-sizes rate _ _ _ _ (eqb-true n 0 (started-asked n was (shed.opening rate ceiling (length (m .rows .hashes)) (length (m .counted))) (m .hist) wants.cleared (eqb n 0) e))
+    let n = shed.start-asked rate (length (m .rows .tags)) (length (m .rows .units)) (length (m .rows .uses)) (length (m .counted)) in
+    asked-sizes rate _ _ _ _ (eqb-true n 0 (started-asked n was (shed.opening rate ceiling (length (m .rows .tags)) (length (m .counted))) (m .hist) wants.cleared (eqb n 0) e))
 
 opening-lasts : (rate ceiling : List ℕ) (room : ℕ) (k : List (List ℕ)) → 2 ≤ length k → steady.Lasts (length k) (shed.opening rate ceiling room (length k)) k 0
 unfolding shed.opening
@@ -251,12 +251,12 @@ opening-few rate ceiling room size = let x : 0 ≤ room = omega arith in x
 pub it-lasts : Lasts
 it-lasts was m rate ceiling rates e =
     let z = start-sizes was m rate ceiling e in
-    let room = length (m .rows .hashes) in
+    let room = length (m .rows .tags) in
     let size = length (m .counted) in
     let t = begun.left-tied was m rate ceiling rates e in
     let o = begun.left-is was m rate ceiling e in
     lasting room size rate ceiling rates (z .rooms) (calls.left was m rate ceiling) t (record {
-      held = record { hashes = refl; units = z .units; uses = z .uses; few = subst (λ (h : Shedder). h .tracked ≤ room) (sym o) (opening-few rate ceiling room size); wide = t .wide };
+      held = record { tags = refl; units = z .units; uses = z .uses; few = subst (λ (h : Shedder). h .tracked ≤ room) (sym o) (opening-few rate ceiling room size); wide = t .wide };
       lasts = subst (λ (h : Shedder). steady.Lasts size h (m .counted) (h .flow .«at_ms»)) (sym o) (opening-from rate ceiling room (m .counted) (z .rooms .two));
       low = omega (arith, t .clock-is);
     })

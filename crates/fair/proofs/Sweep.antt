@@ -25,30 +25,30 @@ Wide w m n = (j : ℕ) → j < n → length (getD (m .units) j []) ≡ w
 
 -- as long as another memory
 pub record Long (m m' : Rows) : Type 0 where
-  pub hashes : length (m .hashes) ≡ length (m' .hashes)
+  pub tags : length (m .tags) ≡ length (m' .tags)
   pub units : length (m .units) ≡ length (m' .units)
   pub uses : length (m .uses) ≡ length (m' .uses)
 
 module _ (m : Rows) (i : ℕ) where
   freed-long : Long (freed m i) m
   unfolding freed
-  freed-long = record { hashes = simp length-set; units = simp length-set; uses = simp length-set }
+  freed-long = record { tags = simp length-set; units = simp length-set; uses = simp length-set }
 
   module _ (k : ℕ) where
     moved-long : Long (moved m i k) m
     unfolding moved
-    moved-long = record { hashes = simp length-set; units = simp length-set; uses = simp length-set }
+    moved-long = record { tags = simp length-set; units = simp length-set; uses = simp length-set }
 
-    moved-there : k < length (m .hashes) → k < length (m .units) → k < length (m .uses) → Same (moved m i k) k m i
+    moved-there : k < length (m .tags) → k < length (m .units) → k < length (m .uses) → Same (moved m i k) k m i
     unfolding Same moved
     moved-there a b c =
-        let x : k < length (set (m .hashes) i 0) = simp length-set a in
+        let x : k < length (set (m .tags) i 0) = simp length-set a in
         let y : k < length (set (m .units) i (replicate 7 0)) = simp length-set b in
         let z : k < length (set (m .uses) i (replicate 4 nothing)) = simp length-set c in
         (rw getD-set-same, rw getD-set-same, rw getD-set-same)
 
 go : {x y z : Rows} → Long x y → Long y z → Long x z
-go p q = record { hashes = p .hashes ∙ q .hashes; units = p .units ∙ q .units; uses = p .uses ∙ q .uses }
+go p q = record { tags = p .tags ∙ q .tags; units = p .units ∙ q .units; uses = p .uses ∙ q .uses }
 
 module _ (room : ℕ) where
   abbrev R′ : Type 0
@@ -73,7 +73,7 @@ module _ (room : ℕ) where
   unfolding Same view.record-at words-at use-at
   record-same m i m' j s = simp (s .0, s .1, s .2)
 
-  stale-at : (m : Rows) (t a i : ℕ) → is-stale (m .hashes) (m .units) t a i ≡ stale t a (record-at m i)
+  stale-at : (m : Rows) (t a i : ℕ) → is-stale (m .tags) (m .units) t a i ≡ stale t a (record-at m i)
   unfolding is-stale in-table table-at stamp-at view.record-at words-at use-at
   stale-at m t a i = refl
 
@@ -110,8 +110,8 @@ module _ (room : ℕ) where
       pub wide : (w : ℕ) → Wide w m n → Wide w (k .rows) (k .count)
       pub list : listed (k .rows) (k .count) ≡ sweep (stale t a) (listed m n)
 
-    module _ (n : ℕ) (k : Kept) (w : Passed n k) (hi : n < length (m .hashes)) (hu : n < length (m .units)) (hs : n < length (m .uses)) where
-      same-stale : is-stale (k .rows .hashes) (k .rows .units) t a n ≡ stale t a (record-at m n)
+    module _ (n : ℕ) (k : Kept) (w : Passed n k) (hi : n < length (m .tags)) (hu : n < length (m .units)) (hs : n < length (m .uses)) where
+      same-stale : is-stale (k .rows .tags) (k .rows .units) t a n ≡ stale t a (record-at m n)
       same-stale = stale-at (k .rows) t a n ∙ ap (stale t a) (record-same (k .rows) n m n (w .beyond n (omega arith)))
 
       -- what the sweep of one record more is
@@ -135,7 +135,7 @@ module _ (room : ℕ) where
       step-moved e l = record {
         wide = λ v f j h. elim (ℕ-discrete j (k .count)) [
           | yes q ↦ ap (λ (i : ℕ). length (getD (moved (k .rows) n (k .count) .units) i [])) q
-              ∙ ap (λ (l : List ℕ). length l) (unit-same (moved (k .rows) n (k .count)) (k .count) (k .rows) n (moved-there (k .rows) n (k .count) (omega (arith, w .long .hashes)) (omega (arith, w .long .units)) (omega (arith, w .long .uses))))
+              ∙ ap (λ (l : List ℕ). length l) (unit-same (moved (k .rows) n (k .count)) (k .count) (k .rows) n (moved-there (k .rows) n (k .count) (omega (arith, w .long .tags)) (omega (arith, w .long .units)) (omega (arith, w .long .uses))))
               ∙ ap (λ (l : List ℕ). length l) (unit-same (k .rows) n m n (w .beyond n (omega arith))) ∙ f n (omega arith)
           | no q ↦ ap (λ (l : List ℕ). length l) (unit-same (moved (k .rows) n (k .count)) j (k .rows) j (moved-other (k .rows) n (k .count) j (λ x. absurd (omega arith)) q)) ∙ w .wide v (λ i l. f i (omega arith)) j (omega arith)
         ];
@@ -146,7 +146,7 @@ module _ (room : ℕ) where
             ∙ ap (λ (x : List R′). x ++ (record-at (moved (k .rows) n (k .count)) (k .count) ∷ []))
             (listed-same (moved (k .rows) n (k .count)) (k .rows) (k .count) (λ j h. record-same (moved (k .rows) n (k .count)) j (k .rows) j (moved-other (k .rows) n (k .count) j (λ q. absurd (omega arith)) (λ q. absurd (omega arith)))))
             ∙ ap (λ (r : R′). listed (k .rows) (k .count) ++ (r ∷ []))
-            (record-same (moved (k .rows) n (k .count)) (k .count) (k .rows) n (moved-there (k .rows) n (k .count) (omega (arith, w .long .hashes)) (omega (arith, w .long .units)) (omega (arith, w .long .uses)))
+            (record-same (moved (k .rows) n (k .count)) (k .count) (k .rows) n (moved-there (k .rows) n (k .count) (omega (arith, w .long .tags)) (omega (arith, w .long .units)) (omega (arith, w .long .uses)))
             ∙ record-same (k .rows) n m n (w .beyond n (omega arith)))
             ∙ sym (more false e);
       }
@@ -169,24 +169,24 @@ module _ (room : ℕ) where
 
       step : Passed (n + 1) (retain-one k t a n)
       unfolding retain-one
-      step = by (is-stale (k .rows .hashes) (k .rows .units) t a n) refl (ltb (k .count) n) refl
+      step = by (is-stale (k .rows .tags) (k .rows .units) t a n) refl (ltb (k .count) n) refl
         where
-          by : (b : Bool) → is-stale (k .rows .hashes) (k .rows .units) t a n ≡ b → (c : Bool) → ltb (k .count) n ≡ c
+          by : (b : Bool) → is-stale (k .rows .tags) (k .rows .units) t a n ≡ b → (c : Bool) → ltb (k .count) n ≡ c
               → Passed (n + 1) (either b (kept (k .count) (freed (k .rows) n)) (either c (kept (k .count + 1) (moved (k .rows) n (k .count))) (kept (k .count + 1) (k .rows))))
           by true e c f = step-freed (sym same-stale ∙ e)
           by false e true f = step-moved (sym same-stale ∙ e) (ltb-true (k .count) n f)
           by false e false f = step-stays (sym same-stale ∙ e) (ltb-false (k .count) n f)
 
-    pub passed : (n : ℕ) → n ≤ length (m .hashes) → n ≤ length (m .units) → n ≤ length (m .uses) → Passed n (retained m t a n)
+    pub passed : (n : ℕ) → n ≤ length (m .tags) → n ≤ length (m .units) → n ≤ length (m .uses) → Passed n (retained m t a n)
     unfolding retained Wide
-    passed zero p q r = record { wide = λ v f j h. absurd (omega arith); few = omega arith; long = record { hashes = refl; units = refl; uses = refl }; beyond = λ j h. same-self m j; list = start }
+    passed zero p q r = record { wide = λ v f j h. absurd (omega arith); few = omega arith; long = record { tags = refl; units = refl; uses = refl }; beyond = λ j h. same-self m j; list = start }
     passed (suc n) p q r = rw add-one at (step n (retained m t a n) (passed n (omega arith) (omega arith) (omega arith)) (omega arith) (omega arith) (omega arith))
 
     -- THE SWEEP: the live records after one pass are those that the sweep leaves, in their order
-    pub retained-sweeps : (n : ℕ) → n ≤ length (m .hashes) → n ≤ length (m .units) → n ≤ length (m .uses)
+    pub retained-sweeps : (n : ℕ) → n ≤ length (m .tags) → n ≤ length (m .units) → n ≤ length (m .uses)
         → listed (retained m t a n .rows) (retained m t a n .count) ≡ sweep (stale t a) (listed m n)
     retained-sweeps n p q r = passed n p q r .list
 
     -- and what stands behind them is as it was
-    pub retained-beyond : (n : ℕ) → n ≤ length (m .hashes) → n ≤ length (m .units) → n ≤ length (m .uses) → (j : ℕ) → n ≤ j → Same (retained m t a n .rows) j m j
+    pub retained-beyond : (n : ℕ) → n ≤ length (m .tags) → n ≤ length (m .units) → n ≤ length (m .uses) → (j : ℕ) → n ≤ j → Same (retained m t a n .rows) j m j
     retained-beyond n p q r = passed n p q r .beyond

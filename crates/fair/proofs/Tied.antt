@@ -87,7 +87,7 @@ module _ (room : ℕ) where
     unfolding shed.visit shed.visited
     visit-bound h m g st clk b =
         let a = b .held in
-        let i : h .tracked ≤ length (m .hashes) = omega (arith, a .hashes, a .few) in
+        let i : h .tracked ≤ length (m .tags) = omega (arith, a .tags, a .few) in
         let u : h .tracked ≤ length (m .units) = omega (arith, a .units, a .few) in
         let s : h .tracked ≤ length (m .uses) = omega (arith, a .uses, a .few) in
         let p = pass.passed room m (h .scan .next) (h .scan .«at_ms») (h .tracked) i u s in
@@ -107,7 +107,7 @@ module _ (room : ℕ) where
             scan-is = t .scan-is;
             wide = w;
           };
-          held = record { hashes = p .long .hashes ∙ a .hashes; units = p .long .units ∙ a .units; uses = p .long .uses ∙ a .uses; few = omega (arith, p .few, a .few); wide = w };
+          held = record { tags = p .long .tags ∙ a .tags; units = p .long .units ∙ a .units; uses = p .long .uses ∙ a .uses; few = omega (arith, p .few, a .few); wide = w };
         }
 
     re-rows : (h : Shedder) (m : Rows) (st : entry.S room) (clk : ℕ) (xs : List R′) → st .rows ≡ xs → Bound rate h m st clk → Bound rate h m (record { bucket = st .bucket; rows = xs; overflow = st .overflow }) clk
@@ -214,7 +214,7 @@ module _ (room : ℕ) where
 
     -- what it drops is old by the clock
     stale-old : (table a clk : ℕ) → a ≤ clk → (r : R′) → view.stale room table a r ≡ true → ltb (r .used .«at_ms» + 8000) clk ≡ true
-    stale-old table a clk l r e = go (eqb (sender.table-of-hash (r .name .name .hash)) table) e
+    stale-old table a clk l r e = go (eqb (sender.table-of-tag (r .name .name .tag)) table) e
       where
         go : (c : Bool) → cond c (ltb 8000 (a - r .used .«at_ms»)) false ≡ true → ltb (r .used .«at_ms» + 8000) clk ≡ true
         go true e = lt-ltb (r .used .«at_ms» + 8000) clk (omega (arith, ltb-true 8000 (a - r .used .«at_ms») e))

@@ -81,11 +81,11 @@ words-self v = simp (eq-eqb (v .kind) (v .kind) refl, eq-eqb (v .a) (v .a) refl,
 
 pair-same : (v w : sender-name.Name) → same-name v w ≡ true → v ≡ w
 pair-same v w e =
-    let a = both (eqb (w .hash) (v .hash)) _ e in
-    pair-ext (v .hash) (w .hash) (v .words) (w .words) (sym (eqb-true (w .hash) (v .hash) (a .0))) (sym (words-same (w .words) (v .words) (a .1)))
+    let a = both (eqb (w .tag) (v .tag)) _ e in
+    pair-ext (v .tag) (w .tag) (v .words) (w .words) (sym (eqb-true (w .tag) (v .tag) (a .0))) (sym (words-same (w .words) (v .words) (a .1)))
 
 pair-self : (v : sender-name.Name) → same-name v v ≡ true
-pair-self v = simp (eq-eqb (v .hash) (v .hash) refl, words-self (v .words))
+pair-self v = simp (eq-eqb (v .tag) (v .tag) refl, words-self (v .words))
 
 pub same-is : (u v : Name) → T (same u v) → u ≡ v
 same-is u v t =
@@ -97,7 +97,7 @@ same-self u = subst T (sym (ap (λ (b : Bool). cond b (same-name (u .name) (u .n
 
 -- the words of a row of the store
 abbrev pub name-at : List ℕ → List (List ℕ) → ℕ → sender-name.Name
-name-at hashes units i = record { hash = getD hashes i 0; words = store.words-at units i }
+name-at tags units i = record { hash = getD tags i 0; words = store.words-at units i }
 
 -- ---- rows
 module _ (room : ℕ) where
@@ -114,7 +114,7 @@ module _ (room : ℕ) where
   row w u = record { name = named w; used = u }
 
   unfoldable pub record-at : Rows → ℕ → R
-  record-at m i = row (name-at (m .hashes) (m .units) i) (store.use-at (m .units) (m .uses) i)
+  record-at m i = row (name-at (m .tags) (m .units) i) (store.use-at (m .units) (m .uses) i)
 
   unfoldable pub listed : Rows → ℕ → List R
   listed m zero = []
@@ -122,7 +122,7 @@ module _ (room : ℕ) where
 
   -- of the table that the scan comes by, and more than 8 s old
   abbrev pub stale : ℕ → ℕ → R → Bool
-  stale table at r = cond (eqb (sender.table-of-hash (r .name .name .hash)) table) (ltb 8000 (at - r .used .«at_ms»)) false
+  stale table at r = cond (eqb (sender.table-of-tag (r .name .name .tag)) table) (ltb 8000 (at - r .used .«at_ms»)) false
 
   pub listed-length : (m : Rows) (n : ℕ) → length (listed m n) ≡ n
   unfolding listed

@@ -63,7 +63,7 @@ state-of h m = record { head = h; memory = m }
 -- "Report: 3, 4, 7": the number that the contracts of the report and of the call beside it cite
 abbrev pub report-number : State → List ℕ → ℕ
 report-number s out =
-    report-asked (s .head) (length (s .memory .rows .hashes)) (length (s .memory .rows .units)) (length (s .memory .rows .uses)) (s .memory .counted) (length out)
+    report-asked (s .head) (length (s .memory .rows .tags)) (length (s .memory .rows .units)) (length (s .memory .rows .uses)) (s .memory .counted) (length out)
 
 abbrev pub judges : State → unit.Unit → List ℕ → ℕ → shed.Judged
 judges s u cost t = shed.judge (s .head) (s .memory) u cost t
@@ -144,7 +144,7 @@ pub data Key : Type 0 where
 
 -- the same unit: hash and words
 abbrev pub same-name : Name → Name → Bool
-same-name v w = cond (eqb (w .hash) (v .hash)) (store.same (w .words) (v .words)) false
+same-name v w = cond (eqb (w .tag) (v .tag)) (store.same (w .words) (v .words)) false
 
 abbrev pub same-key : Key → Key → Bool
 same-key shared shared = true
@@ -239,7 +239,7 @@ module _ (r : Key) where
 -- the record is in the store; "overflow's since the start"
 abbrev pub present : Key → State → Bool
 present shared s = true
-present (own u) s = ltb (store.find (s .memory .rows .hashes) (s .memory .rows .units) (sender.name-of u) (s .head .tracked)) (s .head .tracked)
+present (own u) s = ltb (store.find (s .memory .rows .tags) (s .memory .rows .units) (sender.name-of u) (s .head .tracked)) (s .head .tracked)
 
 abbrev pub present-after : Key → List Event → Bool
 present-after r [] = false
@@ -275,11 +275,11 @@ pub record Lasting (first : State) : Type 0 where
   pub cut : (h : List Call) (u : unit.Unit) (c : Cause) (cost : List ℕ) → shed.costs-held cost ≡ true → refused (state first h) (Cut u c cost) ≡ false
   pub head : (h : List Call) → shed.head-whole (state first h .head) ≡ true
   pub memory : (h : List Call)
-      → shed.memory-whole (state first h .head) (length (state first h .memory .rows .hashes)) (length (state first h .memory .rows .units)) (length (state first h .memory .rows .uses)) (length (state first h .memory .counted)) ≡ true
+      → shed.memory-whole (state first h .head) (length (state first h .memory .rows .tags)) (length (state first h .memory .rows .units)) (length (state first h .memory .rows .uses)) (length (state first h .memory .counted)) ≡ true
 
 -- what a start leaves: its head and the cleared histogram; the records are as they were lent
 abbrev pub starts : Shedder → Memory → List ℕ → List ℕ → shed.Beginning
-starts was m rate ceiling = shed.start was (length (m .rows .hashes)) (length (m .rows .units)) (length (m .rows .uses)) (length (m .counted)) (m .hist) rate ceiling
+starts was m rate ceiling = shed.start was (length (m .rows .tags)) (length (m .rows .units)) (length (m .rows .uses)) (length (m .counted)) (m .hist) rate ceiling
 
 abbrev pub left : Shedder → Memory → List ℕ → List ℕ → State
 left was m rate ceiling = state-of (starts was m rate ceiling .head) (memory (m .rows) (starts was m rate ceiling .hist) (m .counted))

@@ -39,7 +39,7 @@ module _ (h : Shedder) where
         let m = memory-of (b .0) in
         let w = whole-of h (a .0) in
         record {
-          hashes-room = m .0;
+          tags-room = m .0;
           units-room = m .1;
           uses-room = m .2;
           tracked-held = w .tracked-held;
@@ -57,4 +57,4 @@ module _ (h : Shedder) where
         let b = zero-yes (memory-whole h i u s k) _ 3 (a .1) in
         let m = memory-of (b .0) in
         let w = whole-of h (a .0) in
-        record { hashes-room = m .0; units-room = m .1; uses-room = m .2; tracked-held = w .tracked-held; counted-held = omega (arith, w .counted-held, m .3) }
+        record { tags-room = m .0; units-room = m .1; uses-room = m .2; tracked-held = w .tracked-held; counted-held = omega (arith, w .counted-held, m .3) }

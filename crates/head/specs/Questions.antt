@@ -33,7 +33,7 @@ rooms-whole u c tracked counted =
 
 -- by the lengths of the lent slices: the three of the unit records are equally long
 unfoldable pub sizes-whole : ℕ → ℕ → ℕ → ℕ → Bool
-sizes-whole hashes units uses counted = cond (eqb units hashes) (cond (eqb uses hashes) (rooms-whole hashes counted 0 0) false) false
+sizes-whole tags units uses counted = cond (eqb units tags) (cond (eqb uses tags) (rooms-whole tags counted 0 0) false) false
 
 -- ---- question 3: the head is whole
 -- at most 2^53 − 1
@@ -54,7 +54,7 @@ head-whole h =
 
 -- ---- question 4: the lent slices have the capacities noted at the start
 unfoldable pub memory-whole : Shedder → ℕ → ℕ → ℕ → ℕ → Bool
-memory-whole h hashes units uses counted = cond (eqb hashes (h .«unit_room»)) (cond (eqb units (h .«unit_room»)) (cond (eqb uses (h .«unit_room»)) (eqb counted (h .«counted_room»)) false) false) false
+memory-whole h tags units uses counted = cond (eqb tags (h .«unit_room»)) (cond (eqb units (h .«unit_room»)) (cond (eqb uses (h .«unit_room»)) (eqb counted (h .«counted_room»)) false) false) false
 
 -- ---- question 5: each cost is at most 2^40 (question 6 is `is-stamp` of the stamp)
 unfoldable pub costs-held : List ℕ → Bool
@@ -62,21 +62,21 @@ costs-held xs = all (λ (d : ℕ). leb (getD xs d 0) 1099511627776) dims
 
 -- ---- the number of the first question answered no, else 0: at a start, a judgement, a cut, a reading; after the head, the lengths of the lent slices
 unfoldable pub start-asked : List ℕ → ℕ → ℕ → ℕ → ℕ → ℕ
-start-asked rate hashes units uses counted = cond (rates-whole rate) (cond (sizes-whole hashes units uses counted) 0 2) 1
+start-asked rate tags units uses counted = cond (rates-whole rate) (cond (sizes-whole tags units uses counted) 0 2) 1
 
 unfoldable pub judge-asked : Shedder → ℕ → ℕ → ℕ → ℕ → List ℕ → ℕ → ℕ
-judge-asked h hashes units uses counted cost stamp =
-    cond (head-whole h) (cond (memory-whole h hashes units uses counted) (cond (costs-held cost) (cond (is-stamp stamp) 0 6) 5) 4) 3
+judge-asked h tags units uses counted cost stamp =
+    cond (head-whole h) (cond (memory-whole h tags units uses counted) (cond (costs-held cost) (cond (is-stamp stamp) 0 6) 5) 4) 3
 
 unfoldable pub cut-asked : Shedder → ℕ → ℕ → ℕ → ℕ → List ℕ → ℕ
-cut-asked h hashes units uses counted cost = cond (head-whole h) (cond (memory-whole h hashes units uses counted) (cond (costs-held cost) 0 5) 4) 3
+cut-asked h tags units uses counted cost = cond (head-whole h) (cond (memory-whole h tags units uses counted) (cond (costs-held cost) 0 5) 4) 3
 
 unfoldable pub read-asked : Shedder → ℕ
 read-asked h = cond (head-whole h) 0 3
 
 -- ---- what the questions have shown, for the calls behind them
-pub record Ready (h : Shedder) (hashes units uses counted stamp : ℕ) : Type 0 where
-  pub hashes-room : hashes ≡ h .«unit_room»
+pub record Ready (h : Shedder) (tags units uses counted stamp : ℕ) : Type 0 where
+  pub tags-room : tags ≡ h .«unit_room»
   pub units-room : units ≡ h .«unit_room»
   pub uses-room : uses ≡ h .«unit_room»
   pub tracked-held : h .tracked ≤ h .«unit_room»
@@ -86,8 +86,8 @@ pub record Ready (h : Shedder) (hashes units uses counted stamp : ℕ) : Type 0 
   pub began-held : h .scan .«began_ms» < 9007199254740992
   pub tables-held : h .scan .remaining + h .scan .next ≤ 64
 
-pub record CutReady (h : Shedder) (hashes units uses counted : ℕ) : Type 0 where
-  pub hashes-room : hashes ≡ h .«unit_room»
+pub record CutReady (h : Shedder) (tags units uses counted : ℕ) : Type 0 where
+  pub tags-room : tags ≡ h .«unit_room»
   pub units-room : units ≡ h .«unit_room»
   pub uses-room : uses ≡ h .«unit_room»
   pub tracked-held : h .tracked ≤ h .«unit_room»

@@ -61,5 +61,5 @@ start-ends b h g = record { answer = b; head = h; hist = g }
 
 -- THE START: no record is written; a refused one leaves the head that was
 unfoldable pub start : Shedder → ℕ → ℕ → ℕ → ℕ → Hist → List ℕ → List ℕ → Beginning
-start h hashes units uses counted g rate ceiling =
-    choose (eqb (start-asked rate hashes units uses counted) 0) (start-ends begin.Started (opening rate ceiling hashes counted) wants.cleared) (start-ends (begin.Refused (start-asked rate hashes units uses counted)) h g)
+start h tags units uses counted g rate ceiling =
+    choose (eqb (start-asked rate tags units uses counted) 0) (start-ends begin.Started (opening rate ceiling tags counted) wants.cleared) (start-ends (begin.Refused (start-asked rate tags units uses counted)) h g)

@@ -266,10 +266,10 @@ pub fn head_whole(h: Shedder) -> bool
 }
 
 // Question 4.
-pub fn memory_whole(h: Shedder, hashes: usize, units: usize, uses: usize, counted: usize) -> bool
-    ensures { λ r. ⌜ r ≡ asked.memory-whole h hashes units uses counted ⌝ }
+pub fn memory_whole(h: Shedder, tags: usize, units: usize, uses: usize, counted: usize) -> bool
+    ensures { λ r. ⌜ r ≡ asked.memory-whole h tags units uses counted ⌝ }
 {
-    if hashes == h.unit_room {
+    if tags == h.unit_room {
         if units == h.unit_room {
             if uses == h.unit_room {
                 return counted == h.counted_room;
@@ -280,23 +280,23 @@ pub fn memory_whole(h: Shedder, hashes: usize, units: usize, uses: usize, counte
 }
 
 // Question 2.
-fn sizes_whole(hashes: usize, units: usize, uses: usize, counted: usize) -> bool
-    ensures { λ r. ⌜ r ≡ asked.sizes-whole hashes units uses counted ⌝ }
+fn sizes_whole(tags: usize, units: usize, uses: usize, counted: usize) -> bool
+    ensures { λ r. ⌜ r ≡ asked.sizes-whole tags units uses counted ⌝ }
 {
-    if units == hashes {
-        if uses == hashes {
-            return rooms_whole(hashes, counted, 0, 0);
+    if units == tags {
+        if uses == tags {
+            return rooms_whole(tags, counted, 0, 0);
         }
     }
     false
 }
 
 // The number of the first question answered no, else 0.
-fn start_asked(rate: [u64; DIMS], hashes: usize, units: usize, uses: usize, counted: usize) -> u64
-    ensures { λ r. ⌜ r ≡ asked.start-asked rate hashes units uses counted ⌝ }
+fn start_asked(rate: [u64; DIMS], tags: usize, units: usize, uses: usize, counted: usize) -> u64
+    ensures { λ r. ⌜ r ≡ asked.start-asked rate tags units uses counted ⌝ }
 {
     if either(is_unbounded(rate), all_rates(rate)) {
-        if sizes_whole(hashes, units, uses, counted) {
+        if sizes_whole(tags, units, uses, counted) {
             return 0;
         }
         return 2;
@@ -307,17 +307,17 @@ fn start_asked(rate: [u64; DIMS], hashes: usize, units: usize, uses: usize, coun
 // The number of the first question answered no, else 0.
 pub fn judge_asked(
     h: Shedder,
-    hashes: usize,
+    tags: usize,
     units: usize,
     uses: usize,
     counted: usize,
     cost: [u64; DIMS],
     stamp: u64,
 ) -> u64
-    ensures { λ r. ⌜ r ≡ asked.judge-asked h hashes units uses counted cost stamp ⌝ }
+    ensures { λ r. ⌜ r ≡ asked.judge-asked h tags units uses counted cost stamp ⌝ }
 {
     if head_whole(h) {
-        if memory_whole(h, hashes, units, uses, counted) {
+        if memory_whole(h, tags, units, uses, counted) {
             if costs_held(cost) {
                 if is_stamp(stamp) {
                     return 0;
@@ -334,16 +334,16 @@ pub fn judge_asked(
 // The number of the first question answered no, else 0.
 pub fn cut_asked(
     h: Shedder,
-    hashes: usize,
+    tags: usize,
     units: usize,
     uses: usize,
     counted: usize,
     cost: [u64; DIMS],
 ) -> u64
-    ensures { λ r. ⌜ r ≡ asked.cut-asked h hashes units uses counted cost ⌝ }
+    ensures { λ r. ⌜ r ≡ asked.cut-asked h tags units uses counted cost ⌝ }
 {
     if head_whole(h) {
-        if memory_whole(h, hashes, units, uses, counted) {
+        if memory_whole(h, tags, units, uses, counted) {
             if costs_held(cost) {
                 return 0;
             }
@@ -432,7 +432,7 @@ fn opening(rate: [u64; DIMS], ceiling: [u64; DIMS], units: usize, counted: usize
 // A head for the rates and the ceiling, over the memory lent; no record is written. A refused start leaves the head given.
 pub fn start(
     head: Shedder,
-    hashes: &[u64],
+    tags: &[u16],
     units: &[[u64; 7]],
     uses: &[[f64; 2 * DIMS]],
     counts: &mut [[u32; 768]; DIMS],
@@ -441,10 +441,10 @@ pub fn start(
     rate: [u64; DIMS],
     ceiling: [u64; DIMS],
 ) -> Starting
-    ensures { λ r. ⌜ starts.beginning r (wants.hist (now (counts .exit)) (now (sums .exit))) ≡ starts.start head (length (now (hashes .entry))) (length (now (units .entry))) (length (now (uses .entry))) (length (now (counted .entry))) (wants.hist (now (counts .entry)) (now (sums .entry))) rate ceiling ⌝ }
-    ensures { λ r. ⌜ answers.start-number (r .answer) ≡ asked.start-asked rate (length (now (hashes .entry))) (length (now (units .entry))) (length (now (uses .entry))) (length (now (counted .entry))) ⌝ }
+    ensures { λ r. ⌜ starts.beginning r (wants.hist (now (counts .exit)) (now (sums .exit))) ≡ starts.start head (length (now (tags .entry))) (length (now (units .entry))) (length (now (uses .entry))) (length (now (counted .entry))) (wants.hist (now (counts .entry)) (now (sums .entry))) rate ceiling ⌝ }
+    ensures { λ r. ⌜ answers.start-number (r .answer) ≡ asked.start-asked rate (length (now (tags .entry))) (length (now (units .entry))) (length (now (uses .entry))) (length (now (counted .entry))) ⌝ }
 {
-    let no = start_asked(rate, hashes.len(), units.len(), uses.len(), counted.len());
+    let no = start_asked(rate, tags.len(), units.len(), uses.len(), counted.len());
     if no != 0 {
         return Starting {
             answer: Begin::Refused(no),
@@ -452,7 +452,7 @@ pub fn start(
         };
     }
     wants::clear(counts, sums);
-    let h = opening(rate, ceiling, hashes.len(), counted.len());
+    let h = opening(rate, ceiling, tags.len(), counted.len());
     Starting {
         answer: Begin::Started,
         head: h,

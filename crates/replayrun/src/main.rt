@@ -51,7 +51,7 @@ fn say(r: Replayed) {
 // text.
 fn say_reports(
     r: Replayed,
-    hashes: &[u64],
+    tags: &[u16],
     units: &[[u64; 7]],
     uses: &[[f64; 2 * DIMS]],
     counted: &[[u64; 8]],
@@ -59,7 +59,7 @@ fn say_reports(
 ) {
     let head = r.head;
     let mut own = [0u8; REPORT];
-    let text = report::report(head, hashes, units, uses, counted, &mut own);
+    let text = report::report(head, tags, units, uses, counted, &mut own);
     io::write_all(STDOUT_FILENO, b"page\n");
     io::write_all(STDOUT_FILENO, front(page, text.len()));
     io::write_all(STDOUT_FILENO, b"state\n");
@@ -68,7 +68,7 @@ fn say_reports(
 
 // The shedder's memory, a start, and the list.
 fn run(l: List, rows: &[[u64; 7 + DIMS]; ROWS]) {
-    let mut hashes = [0u64; UNITS];
+    let mut tags = [0u64; UNITS];
     let unit = [0u64; 7];
     let mut units = [unit; UNITS];
     let used = [0.0; 2 * DIMS];
@@ -85,7 +85,7 @@ fn run(l: List, rows: &[[u64; 7 + DIMS]; ROWS]) {
     let start = l.start;
     let s = head::start(
         was,
-        &hashes,
+        &tags,
         &units,
         &uses,
         &mut counts,
@@ -98,7 +98,7 @@ fn run(l: List, rows: &[[u64; 7 + DIMS]; ROWS]) {
     let watched = l.watched;
     let r = replay::replay(
         begun,
-        &mut hashes,
+        &mut tags,
         &mut units,
         &mut uses,
         &mut counts,
@@ -109,7 +109,7 @@ fn run(l: List, rows: &[[u64; 7 + DIMS]; ROWS]) {
         &mut page,
     );
     say(r);
-    say_reports(r, &hashes, &units, &uses, &counted, &page);
+    say_reports(r, &tags, &units, &uses, &counted, &page);
 }
 
 fn main() {

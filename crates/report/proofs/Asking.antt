@@ -54,82 +54,82 @@ ends-of : (t : Bool) (a b : Written) (x out : List ℕ)
 ends-of true a b x out = refl
 ends-of false a b x out = refl
 
-module _ (h : Shedder) (hashes units uses : ℕ) (rows : List (List ℕ)) where
+module _ (h : Shedder) (tags units uses : ℕ) (rows : List (List ℕ)) where
   module _ (room : ℕ) where
     -- ---- the number of the first question answered no
-    pub asked-head : head-whole h ≡ false → report-asked h hashes units uses rows room ≡ 3
+    pub asked-head : head-whole h ≡ false → report-asked h tags units uses rows room ≡ 3
     unfolding report-asked
     asked-head e = simp e
 
     module _ (e : head-whole h ≡ true) where
-      pub asked-memory : memory-whole h hashes units uses (length rows) ≡ false → report-asked h hashes units uses rows room ≡ 4
+      pub asked-memory : memory-whole h tags units uses (length rows) ≡ false → report-asked h tags units uses rows room ≡ 4
       unfolding report-asked
       asked-memory f = simp (e, f)
 
-      module _ (f : memory-whole h hashes units uses (length rows) ≡ true) where
-        pub asked-room : room < length (text h rows) → report-asked h hashes units uses rows room ≡ 7
+      module _ (f : memory-whole h tags units uses (length rows) ≡ true) where
+        pub asked-room : room < length (text h rows) → report-asked h tags units uses rows room ≡ 7
         unfolding report-asked
         asked-room g = simp (e, f, lt-leb (length (text h rows)) room g)
 
-        pub asked-none : length (text h rows) ≤ room → report-asked h hashes units uses rows room ≡ 0
+        pub asked-none : length (text h rows) ≤ room → report-asked h tags units uses rows room ≡ 0
         unfolding report-asked
         asked-none g = simp (e, f, le-leb (length (text h rows)) room g)
 
-    pub refused : (k : ℕ) → eqb k 0 ≡ false → report-asked h hashes units uses rows room ≡ k
-        → (Refused k ≡ answer h hashes units uses rows room) × ([] ≡ front h hashes units uses rows room)
+    pub refused : (k : ℕ) → eqb k 0 ≡ false → report-asked h tags units uses rows room ≡ k
+        → (Refused k ≡ answer h tags units uses rows room) × ([] ≡ front h tags units uses rows room)
     unfolding answer front
     refused k n e = (simp (e, n), simp (e, n))
 
-    pub taken : report-asked h hashes units uses rows room ≡ 0
-        → (Bytes (length (text h rows)) ≡ answer h hashes units uses rows room) × (text h rows ≡ front h hashes units uses rows room)
+    pub taken : report-asked h tags units uses rows room ≡ 0
+        → (Bytes (length (text h rows)) ≡ answer h tags units uses rows room) × (text h rows ≡ front h tags units uses rows room)
     unfolding answer front
     taken e = (simp e, simp e)
 
     -- ---- the answer
-    pub answer-number : written-number (answer h hashes units uses rows room) ≡ report-asked h hashes units uses rows room
+    pub answer-number : written-number (answer h tags units uses rows room) ≡ report-asked h tags units uses rows room
     unfolding answer
-    answer-number = number-of (report-asked h hashes units uses rows room) (length (text h rows)) (eqb (report-asked h hashes units uses rows room) 0) refl
+    answer-number = number-of (report-asked h tags units uses rows room) (length (text h rows)) (eqb (report-asked h tags units uses rows room) 0) refl
 
-    answer-bytes : bytes (answer h hashes units uses rows room) ≡ length (front h hashes units uses rows room)
+    answer-bytes : bytes (answer h tags units uses rows room) ≡ length (front h tags units uses rows room)
     unfolding answer front
-    answer-bytes = bytes-of (eqb (report-asked h hashes units uses rows room) 0) (report-asked h hashes units uses rows room) (text h rows)
+    answer-bytes = bytes-of (eqb (report-asked h tags units uses rows room) 0) (report-asked h tags units uses rows room) (text h rows)
 
-    front-fits : length (front h hashes units uses rows room) ≤ room
+    front-fits : length (front h tags units uses rows room) ≤ room
     unfolding front report-asked
-    front-fits = by (eqb (report-asked h hashes units uses rows room) 0) refl
+    front-fits = by (eqb (report-asked h tags units uses rows room) 0) refl
       where
-        by : (t : Bool) → eqb (report-asked h hashes units uses rows room) 0 ≡ t → length (choose t (text h rows) []) ≤ room
-        by true e = fits-of (head-whole h) (memory-whole h hashes units uses (length rows)) (length (text h rows)) room (eqb-true (report-asked h hashes units uses rows room) 0 e)
+        by : (t : Bool) → eqb (report-asked h tags units uses rows room) 0 ≡ t → length (choose t (text h rows) []) ≤ room
+        by true e = fits-of (head-whole h) (memory-whole h tags units uses (length rows)) (length (text h rows)) room (eqb-true (report-asked h tags units uses rows room) 0 e)
         by false e = omega arith
 
   -- ---- the answer and the buffer
   module _ (out : List ℕ) where
-    whole : report h hashes units uses rows out
-        ≡ ends (answer h hashes units uses rows (length out)) (front h hashes units uses rows (length out) ++ drop (length (front h hashes units uses rows (length out))) out)
+    whole : report h tags units uses rows out
+        ≡ ends (answer h tags units uses rows (length out)) (front h tags units uses rows (length out) ++ drop (length (front h tags units uses rows (length out))) out)
     unfolding report answer front
     whole =
-        ends-of (eqb (report-asked h hashes units uses rows (length out)) 0) (Bytes (length (text h rows))) (Refused (report-asked h hashes units uses rows (length out)))
+        ends-of (eqb (report-asked h tags units uses rows (length out)) 0) (Bytes (length (text h rows))) (Refused (report-asked h tags units uses rows (length out)))
         (text h rows) out
 
     -- the front part is put where the answer says
-    pub written : (w : Written) (own after : List ℕ) (n r : ℕ) → w ≡ answer h hashes units uses rows (length out) → n ≡ bytes w
-        → take (bytes w) own ≡ front h hashes units uses rows (length out) → page after r ≡ write (page out 0) (take n own)
-        → ends w after ≡ report h hashes units uses rows out
+    pub written : (w : Written) (own after : List ℕ) (n r : ℕ) → w ≡ answer h tags units uses rows (length out) → n ≡ bytes w
+        → take (bytes w) own ≡ front h tags units uses rows (length out) → page after r ≡ write (page out 0) (take n own)
+        → ends w after ≡ report h tags units uses rows out
     written w own after n r a b f e =
-        let g = front h hashes units uses rows (length out) in
+        let g = front h tags units uses rows (length out) in
         let p : after ≡ g ++ drop (length g) out =
         put-front out after g r (front-fits (length out)) (e ∙ ap (λ (k : ℕ). write (page out 0) (take k own)) b ∙ ap (write (page out 0)) f) in
-        ap (λ (v : Written). ends v after) a ∙ ap (ends (answer h hashes units uses rows (length out))) p ∙ sym whole
+        ap (λ (v : Written). ends v after) a ∙ ap (ends (answer h tags units uses rows (length out))) p ∙ sym whole
 
     -- the front part is read back
-    pub part : (w : Written) (after : List ℕ) (n : ℕ) → ends w after ≡ report h hashes units uses rows out → n ≡ bytes w
-        → take n after ≡ front h hashes units uses rows (length out)
+    pub part : (w : Written) (after : List ℕ) (n : ℕ) → ends w after ≡ report h tags units uses rows out → n ≡ bytes w
+        → take n after ≡ front h tags units uses rows (length out)
     part w after n e b =
-        let g = front h hashes units uses rows (length out) in
+        let g = front h tags units uses rows (length out) in
         let c : n ≡ length g = b ∙ ap (λ (x : Ends). bytes (x .answer)) (e ∙ whole) ∙ answer-bytes (length out) in
         ap (take n) (ap (λ (x : Ends). x .out) (e ∙ whole)) ∙ take-at g (drop (length g) out) n (sym c)
 
-    pub part-length : (w : Written) (after : List ℕ) (n : ℕ) → ends w after ≡ report h hashes units uses rows out → n ≡ bytes w
+    pub part-length : (w : Written) (after : List ℕ) (n : ℕ) → ends w after ≡ report h tags units uses rows out → n ≡ bytes w
         → n ≡ length (take n after)
     part-length w after n e b =
         b ∙ ap (λ (x : Ends). bytes (x .answer)) (e ∙ whole) ∙ answer-bytes (length out) ∙ ap length (sym (part w after n e b))

@@ -32,19 +32,19 @@ fn number(w: Written) -> u64
 // anything is written to the caller's buffer.
 fn composed(
     head: Shedder,
-    hashes: usize,
+    tags: usize,
     units: usize,
     uses: usize,
     counted: &[[u64; 8]],
     room: usize,
     own: &mut [u8; TEXT_MOST],
 ) -> Written
-    ensures { λ r. ⌜ r ≡ reports.answer head hashes units uses (now (counted .entry)) room ⌝ }
+    ensures { λ r. ⌜ r ≡ reports.answer head tags units uses (now (counted .entry)) room ⌝ }
     ensures { λ r. ⌜ Counts (reports.bytes r) (now (own .exit)) ⌝ }
-    ensures { λ r. ⌜ take (reports.bytes r) (now (own .exit)) ≡ reports.front head hashes units uses (now (counted .entry)) room ⌝ }
+    ensures { λ r. ⌜ take (reports.bytes r) (now (own .exit)) ≡ reports.front head tags units uses (now (counted .entry)) room ⌝ }
 {
     if head::head_whole(head) {
-        if head::memory_whole(head, hashes, units, uses, counted.len()) {
+        if head::memory_whole(head, tags, units, uses, counted.len()) {
             let n = write_text(head, counted, own);
             if n <= room {
                 return Written::Bytes(n);
@@ -59,19 +59,19 @@ fn composed(
 // Writes the report to the front of out. A refused one writes nothing.
 pub fn write_report(
     head: Shedder,
-    hashes: &[u64],
+    tags: &[u16],
     units: &[[u64; 7]],
     uses: &[[f64; 2 * DIMS]],
     counted: &[[u64; 8]],
     out: &mut [u8],
 ) -> Written
-    ensures { λ r. ⌜ reports.ends r (now (out .exit)) ≡ reports.report head (length (now (hashes .entry))) (length (now (units .entry))) (length (now (uses .entry))) (now (counted .entry)) (now (out .entry)) ⌝ }
-    ensures { λ r. ⌜ answers.written-number r ≡ reports.report-asked head (length (now (hashes .entry))) (length (now (units .entry))) (length (now (uses .entry))) (now (counted .entry)) (length (now (out .entry))) ⌝ }
+    ensures { λ r. ⌜ reports.ends r (now (out .exit)) ≡ reports.report head (length (now (tags .entry))) (length (now (units .entry))) (length (now (uses .entry))) (now (counted .entry)) (now (out .entry)) ⌝ }
+    ensures { λ r. ⌜ answers.written-number r ≡ reports.report-asked head (length (now (tags .entry))) (length (now (units .entry))) (length (now (uses .entry))) (now (counted .entry)) (length (now (out .entry))) ⌝ }
 {
     let mut own = [0u8; TEXT_MOST];
     let w = composed(
         head,
-        hashes.len(),
+        tags.len(),
         units.len(),
         uses.len(),
         counted,
@@ -87,15 +87,15 @@ pub fn write_report(
 // promised by write_report.
 pub fn report<'a>(
     head: Shedder,
-    hashes: &[u64],
+    tags: &[u16],
     units: &[[u64; 7]],
     uses: &[[f64; 2 * DIMS]],
     counted: &[[u64; 8]],
     out: &'a mut [u8],
 ) -> &'a mut [u8]
-    ensures { λ r. ⌜ now r ≡ reports.front head (length (now (hashes .entry))) (length (now (units .entry))) (length (now (uses .entry))) (now (counted .entry)) (length (now (out .entry))) ⌝ }
+    ensures { λ r. ⌜ now r ≡ reports.front head (length (now (tags .entry))) (length (now (units .entry))) (length (now (uses .entry))) (now (counted .entry)) (length (now (out .entry))) ⌝ }
 {
-    let w = write_report(head, hashes, units, uses, counted, &mut out[..]);
+    let w = write_report(head, tags, units, uses, counted, &mut out[..]);
     let n = bytes(w);
     &mut out[..n]
 }
@@ -103,18 +103,18 @@ pub fn report<'a>(
 // The number of the question that a report into out would be refused by, 0 where it would be written.
 pub fn report_refusal(
     head: Shedder,
-    hashes: &[u64],
+    tags: &[u16],
     units: &[[u64; 7]],
     uses: &[[f64; 2 * DIMS]],
     counted: &[[u64; 8]],
     out: &[u8],
 ) -> u64
-    ensures { λ r. ⌜ r ≡ reports.report-asked head (length (now (hashes .entry))) (length (now (units .entry))) (length (now (uses .entry))) (now (counted .entry)) (length (now (out .entry))) ⌝ }
+    ensures { λ r. ⌜ r ≡ reports.report-asked head (length (now (tags .entry))) (length (now (units .entry))) (length (now (uses .entry))) (now (counted .entry)) (length (now (out .entry))) ⌝ }
 {
     let mut own = [0u8; TEXT_MOST];
     let w = composed(
         head,
-        hashes.len(),
+        tags.len(),
         units.len(),
         uses.len(),
         counted,

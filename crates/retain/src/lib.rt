@@ -11,13 +11,13 @@ fn since(now: u64, at: u64) -> u64
     if at < now { now - at } else { 0 }
 }
 
-// Of the table and older than 8,000 milliseconds. The table is asked first: it reads the hash alone.
-pub fn is_stale(hashes: &[u64], units: &[[u64; 7]], i: usize, table: usize, at_ms: u64) -> bool
-    requires { ⌜ i < length (now hashes) ⌝ }
+// Of the table and older than 8,000 milliseconds. The table is asked first: it reads the tag alone.
+pub fn is_stale(tags: &[u16], units: &[[u64; 7]], i: usize, table: usize, at_ms: u64) -> bool
+    requires { ⌜ i < length (now tags) ⌝ }
     requires { ⌜ i < length (now units) ⌝ }
-    ensures { λ r. ⌜ r ≡ store.is-stale (now (hashes .entry)) (now (units .entry)) table «at_ms» i ⌝ }
+    ensures { λ r. ⌜ r ≡ store.is-stale (now (tags .entry)) (now (units .entry)) table «at_ms» i ⌝ }
 {
-    if store::table_at(hashes, i) == table {
+    if store::table_at(tags, i) == table {
         8000 < since(at_ms, store::stamp_at(units, i))
     } else {
         false
@@ -26,43 +26,43 @@ pub fn is_stale(hashes: &[u64], units: &[[u64; 7]], i: usize, table: usize, at_m
 
 // The record at i is moved to j, and i freed.
 fn moved(
-    hashes: &mut [u64],
+    tags: &mut [u16],
     units: &mut [[u64; 7]],
     uses: &mut [[f64; 2 * DIMS]],
     i: usize,
     j: usize,
 )
-    requires { ⌜ i < length (now hashes) ⌝ }
+    requires { ⌜ i < length (now tags) ⌝ }
     requires { ⌜ i < length (now units) ⌝ }
     requires { ⌜ i < length (now uses) ⌝ }
     requires { ⌜ j ≤ i ⌝ }
-    ensures { λ r. ⌜ store.rows (now (hashes .exit)) (now (units .exit)) (now (uses .exit)) ≡ store.moved (store.rows (now (hashes .entry)) (now (units .entry)) (now (uses .entry))) i j ⌝ }
+    ensures { λ r. ⌜ store.rows (now (tags .exit)) (now (units .exit)) (now (uses .exit)) ≡ store.moved (store.rows (now (tags .entry)) (now (units .entry)) (now (uses .entry))) i j ⌝ }
 {
-    let hash = hashes[i];
+    let tag = tags[i];
     let row = units[i];
     let held = uses[i];
-    hashes[i] = 0;
+    tags[i] = 0;
     units[i] = [0u64; 7];
     uses[i] = [0.0; 2 * DIMS];
-    hashes[j] = hash;
+    tags[j] = tag;
     units[j] = row;
     uses[j] = held;
 }
 
-fn freed(hashes: &mut [u64], units: &mut [[u64; 7]], uses: &mut [[f64; 2 * DIMS]], i: usize)
-    requires { ⌜ i < length (now hashes) ⌝ }
+fn freed(tags: &mut [u16], units: &mut [[u64; 7]], uses: &mut [[f64; 2 * DIMS]], i: usize)
+    requires { ⌜ i < length (now tags) ⌝ }
     requires { ⌜ i < length (now units) ⌝ }
     requires { ⌜ i < length (now uses) ⌝ }
-    ensures { λ r. ⌜ store.rows (now (hashes .exit)) (now (units .exit)) (now (uses .exit)) ≡ store.freed (store.rows (now (hashes .entry)) (now (units .entry)) (now (uses .entry))) i ⌝ }
+    ensures { λ r. ⌜ store.rows (now (tags .exit)) (now (units .exit)) (now (uses .exit)) ≡ store.freed (store.rows (now (tags .entry)) (now (units .entry)) (now (uses .entry))) i ⌝ }
 {
-    hashes[i] = 0;
+    tags[i] = 0;
     units[i] = [0u64; 7];
     uses[i] = [0.0; 2 * DIMS];
 }
 
 // The record at i: freed where it is stale, else moved to j, the end of those kept.
 fn retain_one(
-    hashes: &mut [u64],
+    tags: &mut [u16],
     units: &mut [[u64; 7]],
     uses: &mut [[f64; 2 * DIMS]],
     i: usize,
@@ -70,20 +70,20 @@ fn retain_one(
     table: usize,
     at_ms: u64,
 ) -> usize
-    requires { ⌜ i < length (now hashes) ⌝ }
+    requires { ⌜ i < length (now tags) ⌝ }
     requires { ⌜ i < length (now units) ⌝ }
     requires { ⌜ i < length (now uses) ⌝ }
     requires { ⌜ j ≤ i ⌝ }
-    ensures { λ r. ⌜ store.kept r (store.rows (now (hashes .exit)) (now (units .exit)) (now (uses .exit))) ≡ store.retain-one (store.kept j (store.rows (now (hashes .entry)) (now (units .entry)) (now (uses .entry)))) table «at_ms» i ⌝ }
+    ensures { λ r. ⌜ store.kept r (store.rows (now (tags .exit)) (now (units .exit)) (now (uses .exit))) ≡ store.retain-one (store.kept j (store.rows (now (tags .entry)) (now (units .entry)) (now (uses .entry)))) table «at_ms» i ⌝ }
     ensures { λ r. ⌜ j ≤ r ⌝ }
     ensures { λ r. ⌜ r ≤ i + 1 ⌝ }
 {
-    if is_stale(hashes, units, i, table, at_ms) {
-        freed(hashes, units, uses, i);
+    if is_stale(tags, units, i, table, at_ms) {
+        freed(tags, units, uses, i);
         return j;
     }
     if j < i {
-        moved(hashes, units, uses, i, j);
+        moved(tags, units, uses, i, j);
         return j + 1;
     }
     j + 1
@@ -92,7 +92,7 @@ fn retain_one(
 // Of n records those that are not stale stay, in their order; freed places become 0. Before `from` none is stale, so nothing
 // is written there; from there on a record that stays is copied once.
 pub fn retain(
-    hashes: &mut [u64],
+    tags: &mut [u16],
     units: &mut [[u64; 7]],
     uses: &mut [[f64; 2 * DIMS]],
     from: usize,
@@ -101,18 +101,18 @@ pub fn retain(
     at_ms: u64,
 ) -> usize
     requires { ⌜ from ≤ n ⌝ }
-    requires { ⌜ n ≤ length (now hashes) ⌝ }
+    requires { ⌜ n ≤ length (now tags) ⌝ }
     requires { ⌜ n ≤ length (now units) ⌝ }
     requires { ⌜ n ≤ length (now uses) ⌝ }
-    requires { ⌜ store.None (store.is-stale (now hashes) (now units) table «at_ms») 0 from ⌝ }
-    ensures { λ r. ⌜ store.kept r (store.rows (now (hashes .exit)) (now (units .exit)) (now (uses .exit))) ≡ store.retained (store.rows (now (hashes .entry)) (now (units .entry)) (now (uses .entry))) table «at_ms» n ⌝ }
+    requires { ⌜ store.None (store.is-stale (now tags) (now units) table «at_ms») 0 from ⌝ }
+    ensures { λ r. ⌜ store.kept r (store.rows (now (tags .exit)) (now (units .exit)) (now (uses .exit))) ≡ store.retained (store.rows (now (tags .entry)) (now (units .entry)) (now (uses .entry))) table «at_ms» n ⌝ }
     ensures { λ r. ⌜ from ≤ r ⌝ }
     ensures { λ r. ⌜ r ≤ n ⌝ }
 {
     let mut i = from;
     let mut j = from;
     while i < n {
-        j = retain_one(hashes, units, uses, i, j, table, at_ms);
+        j = retain_one(tags, units, uses, i, j, table, at_ms);
         i += 1;
     }
     j

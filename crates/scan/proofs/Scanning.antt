@@ -18,7 +18,7 @@ moved-on r n p q = omega arith
 
 -- the rows kept are, before the first stale one, those that were walked already
 pub walked-before : (m m1 : Rows) (table t tracked n i : ℕ) (g g1 : Hist)
-    → kept n m1 ≡ retained m table t tracked → i ≤ tracked → None (is-stale (m .hashes) (m .units) table t) 0 i
+    → kept n m1 ≡ retained m table t tracked → i ≤ tracked → None (is-stale (m .tags) (m .units) table t) 0 i
     → g1 ≡ walk m table t i g → g1 ≡ walk m1 table t i g
 walked-before m m1 table t tracked n i g g1 eK h still e =
     e ∙ sym (walk-same m1 m table t i g (λ j l. subst (λ (k : Kept). Same (k .rows) j m j) (sym eK) (retained-before m table t i still tracked h j l)))

@@ -31,14 +31,14 @@ unfolding walk
 walk-next m table t i g = rw add-one
 
 -- records that are not of the table add nothing
-walk-off : (m : Rows) (table t i : ℕ) (g : Hist) → in-table (m .hashes) table i ≡ false → walk-one m table t i g ≡ g
+walk-off : (m : Rows) (table t i : ℕ) (g : Hist) → in-table (m .tags) table i ≡ false → walk-one m table t i g ≡ g
 unfolding walk-one
 walk-off m table t i g e = rw e
 
-pub walk-past : (m : Rows) (table t i j : ℕ) (g : Hist) → i ≤ j → None (in-table (m .hashes) table) i j → walk m table t j g ≡ walk m table t i g
+pub walk-past : (m : Rows) (table t i j : ℕ) (g : Hist) → i ≤ j → None (in-table (m .tags) table) i j → walk m table t j g ≡ walk m table t i g
 walk-past m table t i j g h n = ap (λ (k : ℕ). walk m table t k g) (sym (add-sub-of-le h)) ∙ go (j - i) (λ k a b. n k a (omega arith))
   where
-    go : (d : ℕ) → None (in-table (m .hashes) table) i (i + d) → walk m table t (i + d) g ≡ walk m table t i g
+    go : (d : ℕ) → None (in-table (m .tags) table) i (i + d) → walk m table t (i + d) g ≡ walk m table t i g
     go zero n = ap (λ (k : ℕ). walk m table t k g) (add-zero i)
     go (suc d) n =
         ap (λ (k : ℕ). walk m table t k g) (add-suc i d ∙ sym (add-one (i + d))) ∙ walk-next m table t (i + d) g

@@ -28,7 +28,7 @@ walk-overflow o table t g = choose (eqb table 0) (choose (o .fresh) g (walk-use 
 
 -- the record at i, where it stands in the table
 unfoldable pub walk-one : Rows → ℕ → ℕ → ℕ → Hist → Hist
-walk-one m table t i g = choose (store.in-table (m .hashes) table i) (walk-use (store.use-at (m .units) (m .uses) i) t g) g
+walk-one m table t i g = choose (store.in-table (m .tags) table i) (walk-use (store.use-at (m .units) (m .uses) i) t g) g
 
 -- the first n records, in order of arrival
 unfoldable pub walk : Rows → ℕ → ℕ → ℕ → Hist → Hist

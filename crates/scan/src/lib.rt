@@ -50,7 +50,7 @@ fn walk_overflow(
 
 // The record at i, which stands in the table.
 fn walk_one(
-    hashes: &[u64],
+    tags: &[u16],
     units: &[[u64; 7]],
     uses: &[[f64; 2 * DIMS]],
     counts: &mut [[u32; 768]; DIMS],
@@ -61,16 +61,16 @@ fn walk_one(
 )
     requires { ⌜ i < length (now units) ⌝ }
     requires { ⌜ i < length (now uses) ⌝ }
-    requires { ⌜ store.in-table (now hashes) table i ≡ true ⌝ }
-    ensures { λ r. ⌜ (wants.hist (now (counts .exit)) (now (sums .exit))) ≡ walking.walk-one (store.rows (now (hashes .entry)) (now (units .entry)) (now (uses .entry))) table «at_ms» i (wants.hist (now (counts .entry)) (now (sums .entry))) ⌝ }
+    requires { ⌜ store.in-table (now tags) table i ≡ true ⌝ }
+    ensures { λ r. ⌜ (wants.hist (now (counts .exit)) (now (sums .exit))) ≡ walking.walk-one (store.rows (now (tags .entry)) (now (units .entry)) (now (uses .entry))) table «at_ms» i (wants.hist (now (counts .entry)) (now (sums .entry))) ⌝ }
 {
     walk_use(counts, sums, store::use_at(units, uses, i), at_ms);
 }
 
 // The table's records are walked up to the first that is stale: where it stands, else n. A visit that drops none reads the
-// hashes once.
+// tags once.
 fn walk_to_stale(
-    hashes: &[u64],
+    tags: &[u16],
     units: &[[u64; 7]],
     uses: &[[f64; 2 * DIMS]],
     counts: &mut [[u32; 768]; DIMS],
@@ -79,27 +79,27 @@ fn walk_to_stale(
     table: usize,
     at_ms: u64,
 ) -> usize
-    requires { ⌜ n ≤ length (now hashes) ⌝ }
+    requires { ⌜ n ≤ length (now tags) ⌝ }
     requires { ⌜ n ≤ length (now units) ⌝ }
     requires { ⌜ n ≤ length (now uses) ⌝ }
     ensures { λ r. ⌜ r ≤ n ⌝ }
-    ensures { λ r. ⌜ store.None (store.is-stale (now (hashes .entry)) (now (units .entry)) table «at_ms») 0 r ⌝ }
-    ensures { λ r. ⌜ (wants.hist (now (counts .exit)) (now (sums .exit))) ≡ walking.walk (store.rows (now (hashes .entry)) (now (units .entry)) (now (uses .entry))) table «at_ms» r (wants.hist (now (counts .entry)) (now (sums .entry))) ⌝ }
+    ensures { λ r. ⌜ store.None (store.is-stale (now (tags .entry)) (now (units .entry)) table «at_ms») 0 r ⌝ }
+    ensures { λ r. ⌜ (wants.hist (now (counts .exit)) (now (sums .exit))) ≡ walking.walk (store.rows (now (tags .entry)) (now (units .entry)) (now (uses .entry))) table «at_ms» r (wants.hist (now (counts .entry)) (now (sums .entry))) ⌝ }
 {
-    let mut i = search::next_in(hashes, 0, n, table);
+    let mut i = search::next_in(tags, 0, n, table);
     while i < n {
-        if retain::is_stale(hashes, units, i, table, at_ms) {
+        if retain::is_stale(tags, units, i, table, at_ms) {
             return i;
         }
-        walk_one(hashes, units, uses, counts, sums, i, table, at_ms);
-        i = search::next_in(hashes, i + 1, n, table);
+        walk_one(tags, units, uses, counts, sums, i, table, at_ms);
+        i = search::next_in(tags, i + 1, n, table);
     }
     i
 }
 
 // The table's records from `from` on, where those before it were walked.
 fn walk(
-    hashes: &[u64],
+    tags: &[u16],
     units: &[[u64; 7]],
     uses: &[[f64; 2 * DIMS]],
     counts: &mut [[u32; 768]; DIMS],
@@ -110,15 +110,15 @@ fn walk(
     at_ms: u64,
 )
     requires { ⌜ from ≤ n ⌝ }
-    requires { ⌜ n ≤ length (now hashes) ⌝ }
+    requires { ⌜ n ≤ length (now tags) ⌝ }
     requires { ⌜ n ≤ length (now units) ⌝ }
     requires { ⌜ n ≤ length (now uses) ⌝ }
-    ensures { λ r. ⌜ ((g : wants.Hist) → wants.hist (now (counts .entry)) (now (sums .entry)) ≡ walking.walk (store.rows (now (hashes .entry)) (now (units .entry)) (now (uses .entry))) table «at_ms» from g → wants.hist (now (counts .exit)) (now (sums .exit)) ≡ walking.walk (store.rows (now (hashes .entry)) (now (units .entry)) (now (uses .entry))) table «at_ms» n g) ⌝ }
+    ensures { λ r. ⌜ ((g : wants.Hist) → wants.hist (now (counts .entry)) (now (sums .entry)) ≡ walking.walk (store.rows (now (tags .entry)) (now (units .entry)) (now (uses .entry))) table «at_ms» from g → wants.hist (now (counts .exit)) (now (sums .exit)) ≡ walking.walk (store.rows (now (tags .entry)) (now (units .entry)) (now (uses .entry))) table «at_ms» n g) ⌝ }
 {
-    let mut i = search::next_in(hashes, from, n, table);
+    let mut i = search::next_in(tags, from, n, table);
     while i < n {
-        walk_one(hashes, units, uses, counts, sums, i, table, at_ms);
-        i = search::next_in(hashes, i + 1, n, table);
+        walk_one(tags, units, uses, counts, sums, i, table, at_ms);
+        i = search::next_in(tags, i + 1, n, table);
     }
 }
 
@@ -141,7 +141,7 @@ fn visited(h: Shedder, n: usize) -> Shedder
 // A table's stale records are dropped, and the wants of the others are added, overflow's first at table 0: how many records
 // are left. The head stays outside, since it would be copied.
 fn swept(
-    hashes: &mut [u64],
+    tags: &mut [u16],
     units: &mut [[u64; 7]],
     uses: &mut [[f64; 2 * DIMS]],
     counts: &mut [[u32; 768]; DIMS],
@@ -151,41 +151,41 @@ fn swept(
     table: usize,
     at_ms: u64,
 ) -> usize
-    requires { ⌜ tracked ≤ length (now hashes) ⌝ }
+    requires { ⌜ tracked ≤ length (now tags) ⌝ }
     requires { ⌜ tracked ≤ length (now units) ⌝ }
     requires { ⌜ tracked ≤ length (now uses) ⌝ }
-    ensures { λ r. ⌜ store.kept r (store.rows (now (hashes .exit)) (now (units .exit)) (now (uses .exit))) ≡ store.retained (store.rows (now (hashes .entry)) (now (units .entry)) (now (uses .entry))) table «at_ms» tracked ⌝ }
-    ensures { λ r. ⌜ (wants.hist (now (counts .exit)) (now (sums .exit))) ≡ walking.walk (store.rows (now (hashes .exit)) (now (units .exit)) (now (uses .exit))) table «at_ms» r (walking.walk-overflow overflow table «at_ms» (wants.hist (now (counts .entry)) (now (sums .entry)))) ⌝ }
+    ensures { λ r. ⌜ store.kept r (store.rows (now (tags .exit)) (now (units .exit)) (now (uses .exit))) ≡ store.retained (store.rows (now (tags .entry)) (now (units .entry)) (now (uses .entry))) table «at_ms» tracked ⌝ }
+    ensures { λ r. ⌜ (wants.hist (now (counts .exit)) (now (sums .exit))) ≡ walking.walk (store.rows (now (tags .exit)) (now (units .exit)) (now (uses .exit))) table «at_ms» r (walking.walk-overflow overflow table «at_ms» (wants.hist (now (counts .entry)) (now (sums .entry)))) ⌝ }
     ensures { λ r. ⌜ r ≤ tracked ⌝ }
 {
     walk_overflow(counts, sums, overflow, table, at_ms);
-    let i = walk_to_stale(hashes, units, uses, counts, sums, tracked, table, at_ms);
-    let n = retain::retain(hashes, units, uses, i, tracked, table, at_ms);
-    walk(hashes, units, uses, counts, sums, i, n, table, at_ms);
+    let i = walk_to_stale(tags, units, uses, counts, sums, tracked, table, at_ms);
+    let n = retain::retain(tags, units, uses, i, tracked, table, at_ms);
+    walk(tags, units, uses, counts, sums, i, n, table, at_ms);
     n
 }
 
 fn visit(
     h: Shedder,
-    hashes: &mut [u64],
+    tags: &mut [u16],
     units: &mut [[u64; 7]],
     uses: &mut [[f64; 2 * DIMS]],
     counts: &mut [[u32; 768]; DIMS],
     sums: &mut [[f64; 768]; DIMS],
 ) -> Shedder
-    requires { ⌜ h .tracked ≤ length (now hashes) ⌝ }
+    requires { ⌜ h .tracked ≤ length (now tags) ⌝ }
     requires { ⌜ h .tracked ≤ length (now units) ⌝ }
     requires { ⌜ h .tracked ≤ length (now uses) ⌝ }
     requires { ⌜ 1 ≤ h .scan .remaining ⌝ }
     requires { ⌜ h .scan .remaining + h .scan .next ≤ 64 ⌝ }
-    ensures { λ r. ⌜ scanning.scanning r (store.rows (now (hashes .exit)) (now (units .exit)) (now (uses .exit))) (wants.hist (now (counts .exit)) (now (sums .exit))) ≡ scanning.visit (scanning.scanning h (store.rows (now (hashes .entry)) (now (units .entry)) (now (uses .entry))) (wants.hist (now (counts .entry)) (now (sums .entry)))) ⌝ }
+    ensures { λ r. ⌜ scanning.scanning r (store.rows (now (tags .exit)) (now (units .exit)) (now (uses .exit))) (wants.hist (now (counts .exit)) (now (sums .exit))) ≡ scanning.visit (scanning.scanning h (store.rows (now (tags .entry)) (now (units .entry)) (now (uses .entry))) (wants.hist (now (counts .entry)) (now (sums .entry)))) ⌝ }
     ensures { λ r. ⌜ r .tracked ≤ h .tracked ⌝ }
     ensures { λ r. ⌜ r .scan .remaining + r .scan .next ≤ 64 ⌝ }
 {
     let s = h.scan;
     let overflow = h.overflow;
     let n = swept(
-        hashes,
+        tags,
         units,
         uses,
         counts,
@@ -201,23 +201,23 @@ fn visit(
 // A second visit, where a table remains. It is written out: `visit`, called twice, would not be inlined and would copy the head.
 fn again(
     h: Shedder,
-    hashes: &mut [u64],
+    tags: &mut [u16],
     units: &mut [[u64; 7]],
     uses: &mut [[f64; 2 * DIMS]],
     counts: &mut [[u32; 768]; DIMS],
     sums: &mut [[f64; 768]; DIMS],
 ) -> Shedder
-    requires { ⌜ h .tracked ≤ length (now hashes) ⌝ }
+    requires { ⌜ h .tracked ≤ length (now tags) ⌝ }
     requires { ⌜ h .tracked ≤ length (now units) ⌝ }
     requires { ⌜ h .tracked ≤ length (now uses) ⌝ }
     requires { ⌜ h .scan .remaining + h .scan .next ≤ 64 ⌝ }
-    ensures { λ r. ⌜ scanning.scanning r (store.rows (now (hashes .exit)) (now (units .exit)) (now (uses .exit))) (wants.hist (now (counts .exit)) (now (sums .exit))) ≡ scanning.again (scanning.scanning h (store.rows (now (hashes .entry)) (now (units .entry)) (now (uses .entry))) (wants.hist (now (counts .entry)) (now (sums .entry)))) ⌝ }
+    ensures { λ r. ⌜ scanning.scanning r (store.rows (now (tags .exit)) (now (units .exit)) (now (uses .exit))) (wants.hist (now (counts .exit)) (now (sums .exit))) ≡ scanning.again (scanning.scanning h (store.rows (now (tags .entry)) (now (units .entry)) (now (uses .entry))) (wants.hist (now (counts .entry)) (now (sums .entry)))) ⌝ }
 {
     let s = h.scan;
     if 1 <= s.remaining {
         let overflow = h.overflow;
         let n = swept(
-            hashes,
+            tags,
             units,
             uses,
             counts,
@@ -400,25 +400,25 @@ fn begun(
 
 pub fn scanned(
     h: Shedder,
-    hashes: &mut [u64],
+    tags: &mut [u16],
     units: &mut [[u64; 7]],
     uses: &mut [[f64; 2 * DIMS]],
     counts: &mut [[u32; 768]; DIMS],
     sums: &mut [[f64; 768]; DIMS],
     clock: u64,
 ) -> Shedder
-    requires { ⌜ h .tracked ≤ length (now hashes) ⌝ }
+    requires { ⌜ h .tracked ≤ length (now tags) ⌝ }
     requires { ⌜ h .tracked ≤ length (now units) ⌝ }
     requires { ⌜ h .tracked ≤ length (now uses) ⌝ }
     requires { ⌜ h .scan .«began_ms» < 9007199254740992 ⌝ }
     requires { ⌜ h .scan .remaining + h .scan .next ≤ 64 ⌝ }
-    ensures { λ r. ⌜ scanning.scanning r (store.rows (now (hashes .exit)) (now (units .exit)) (now (uses .exit))) (wants.hist (now (counts .exit)) (now (sums .exit))) ≡ scanning.scanned (scanning.scanning h (store.rows (now (hashes .entry)) (now (units .entry)) (now (uses .entry))) (wants.hist (now (counts .entry)) (now (sums .entry)))) clock ⌝ }
+    ensures { λ r. ⌜ scanning.scanning r (store.rows (now (tags .exit)) (now (units .exit)) (now (uses .exit))) (wants.hist (now (counts .exit)) (now (sums .exit))) ≡ scanning.scanned (scanning.scanning h (store.rows (now (tags .entry)) (now (units .entry)) (now (uses .entry))) (wants.hist (now (counts .entry)) (now (sums .entry)))) clock ⌝ }
 {
     let b = begun(h, counts, sums, clock);
     let s = b.scan;
     if 1 <= s.remaining {
-        let v = visit(b, hashes, units, uses, counts, sums);
-        let w = again(v, hashes, units, uses, counts, sums);
+        let v = visit(b, tags, units, uses, counts, sums);
+        let w = again(v, tags, units, uses, counts, sums);
         return ended(w, counts, sums);
     }
     b

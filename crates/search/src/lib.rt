@@ -6,13 +6,13 @@ ghost use lib.ListN.{length};
 ghost use Rattle.store.specs.Store as store;
 use sender::Name;
 
-// Whether the record is the unit's: its hash first, so that a search reads 8 bytes a record.
-pub fn is_at(hashes: &[u64], units: &[[u64; 7]], i: usize, name: Name) -> bool
-    requires { ⌜ i < length (now hashes) ⌝ }
+// Whether the record is the unit's: its tag first, so that a search reads 2 bytes a record.
+pub fn is_at(tags: &[u16], units: &[[u64; 7]], i: usize, name: Name) -> bool
+    requires { ⌜ i < length (now tags) ⌝ }
     requires { ⌜ i < length (now units) ⌝ }
-    ensures { λ r. ⌜ r ≡ store.is-at (now (hashes .entry)) (now (units .entry)) name i ⌝ }
+    ensures { λ r. ⌜ r ≡ store.is-at (now (tags .entry)) (now (units .entry)) name i ⌝ }
 {
-    if hashes[i] == name.hash {
+    if tags[i] == name.tag {
         let w = name.words;
         return store::same(store::words_at(units, i), w);
     }
@@ -20,26 +20,18 @@ pub fn is_at(hashes: &[u64], units: &[[u64; 7]], i: usize, name: Name) -> bool
 }
 
 // How many records are tried at once.
-const NEAR: usize = 8;
+const NEAR: usize = 16;
 
-// The lower 32 bits.
-fn lower(word: u64) -> u32
-    ensures { λ r. ⌜ r ≡ store.lower word ⌝ }
+// Whether one of the NEAR records from i on has the tag. No jump depends on a comparison, so the compiler makes eight of
+// them at once.
+fn near_tag(tags: &[u16], i: usize, tag: u16) -> bool
+    requires { ⌜ i + 16 ≤ length (now tags) ⌝ }
+    ensures { λ r. ⌜ (r ≡ false → store.None (store.has-tag (now (tags .entry)) tag) i (i + 16)) ⌝ }
 {
-    (word % 4294967296) as u32
-}
-
-// Whether one of the NEAR records from i on may have the hash: a hash with the same lower half is enough. No jump depends on
-// a comparison, so the compiler makes four of them at once.
-fn near_hash(hashes: &[u64], i: usize, hash: u64) -> bool
-    requires { ⌜ i + 8 ≤ length (now hashes) ⌝ }
-    ensures { λ r. ⌜ (r ≡ false → store.None (store.has-hash (now (hashes .entry)) hash) i (i + 8)) ⌝ }
-{
-    let low = lower(hash);
     let mut met = false;
     let mut k = 0;
     while k < NEAR {
-        if lower(hashes[i + k]) == low {
+        if tags[i + k] == tag {
             met = true;
         }
         k += 1;
@@ -47,15 +39,17 @@ fn near_hash(hashes: &[u64], i: usize, hash: u64) -> bool
     met
 }
 
-// A place up to n before which no record has the hash, in steps of NEAR.
-fn skip_to_hash(hashes: &[u64], n: usize, hash: u64) -> usize
-    requires { ⌜ n ≤ length (now hashes) ⌝ }
+// A place up to n before which no record from `from` on has the tag, in steps of NEAR.
+fn skip_to_tag(tags: &[u16], from: usize, n: usize, tag: u16) -> usize
+    requires { ⌜ from ≤ n ⌝ }
+    requires { ⌜ n ≤ length (now tags) ⌝ }
+    ensures { λ r. ⌜ from ≤ r ⌝ }
     ensures { λ r. ⌜ r ≤ n ⌝ }
-    ensures { λ r. ⌜ store.None (store.has-hash (now (hashes .entry)) hash) 0 r ⌝ }
+    ensures { λ r. ⌜ store.None (store.has-tag (now (tags .entry)) tag) from r ⌝ }
 {
-    let mut i = 0;
+    let mut i = from;
     while NEAR <= n - i {
-        if near_hash(hashes, i, hash) {
+        if near_tag(tags, i, tag) {
             return i;
         }
         i += NEAR;
@@ -63,32 +57,58 @@ fn skip_to_hash(hashes: &[u64], n: usize, hash: u64) -> usize
     i
 }
 
-// The first of n records that is the unit's, else n.
-pub fn find(hashes: &[u64], units: &[[u64; 7]], n: usize, name: Name) -> usize
-    requires { ⌜ n ≤ length (now hashes) ⌝ }
-    requires { ⌜ n ≤ length (now units) ⌝ }
-    ensures { λ r. ⌜ r ≡ store.find (now (hashes .entry)) (now (units .entry)) name n ⌝ }
+// The first record from `from` on that has the tag, else n.
+pub fn next_tagged(tags: &[u16], from: usize, n: usize, tag: u16) -> usize
+    requires { ⌜ from ≤ n ⌝ }
+    requires { ⌜ n ≤ length (now tags) ⌝ }
+    ensures { λ r. ⌜ from ≤ r ⌝ }
+    ensures { λ r. ⌜ r ≤ n ⌝ }
+    ensures { λ r. ⌜ store.None (store.has-tag (now (tags .entry)) tag) from r ⌝ }
+    ensures { λ r. ⌜ (r < n → store.has-tag (now (tags .entry)) tag r ≡ true) ⌝ }
 {
-    let mut i = skip_to_hash(hashes, n, name.hash);
+    let mut i = skip_to_tag(tags, from, n, tag);
     while i < n {
-        if is_at(hashes, units, i, name) {
+        if tags[i] == tag {
             return i;
         }
         i += 1;
     }
+    i
+}
+
+// The first of n records that is the unit's, else n. Another unit may have the same tag: then the search goes on behind it.
+pub fn find(tags: &[u16], units: &[[u64; 7]], n: usize, name: Name) -> usize
+    requires { ⌜ n ≤ length (now tags) ⌝ }
+    requires { ⌜ n ≤ length (now units) ⌝ }
+    ensures { λ r. ⌜ r ≡ store.find (now (tags .entry)) (now (units .entry)) name n ⌝ }
+{
+    let mut i = next_tagged(tags, 0, n, name.tag);
+    while i < n {
+        if is_at(tags, units, i, name) {
+            return i;
+        }
+        i = next_tagged(tags, i + 1, n, name.tag);
+    }
     n
 }
 
-// Whether one of the NEAR records from i on may be of the table, by the lower halves as above.
-fn near_table(hashes: &[u64], i: usize, table: usize) -> bool
-    requires { ⌜ i + 8 ≤ length (now hashes) ⌝ }
-    ensures { λ r. ⌜ (r ≡ false → store.None (store.in-table (now (hashes .entry)) table) i (i + 8)) ⌝ }
+// The lower 16 bits: a table that has more is that of no tag.
+fn lower(table: usize) -> u16
+    ensures { λ r. ⌜ r ≡ store.lower table ⌝ }
 {
-    let low = lower(table as u64);
+    (table % 65536) as u16
+}
+
+// Whether one of the NEAR records from i on may be of the table.
+fn near_table(tags: &[u16], i: usize, table: usize) -> bool
+    requires { ⌜ i + 16 ≤ length (now tags) ⌝ }
+    ensures { λ r. ⌜ (r ≡ false → store.None (store.in-table (now (tags .entry)) table) i (i + 16)) ⌝ }
+{
+    let low = lower(table);
     let mut met = false;
     let mut k = 0;
     while k < NEAR {
-        if lower(store::table_at(hashes, i + k) as u64) == low {
+        if lower(store::table_at(tags, i + k)) == low {
             met = true;
         }
         k += 1;
@@ -97,16 +117,16 @@ fn near_table(hashes: &[u64], i: usize, table: usize) -> bool
 }
 
 // A place up to n before which no record from `from` on is of the table, in steps of NEAR.
-fn skip_to_table(hashes: &[u64], from: usize, n: usize, table: usize) -> usize
+fn skip_to_table(tags: &[u16], from: usize, n: usize, table: usize) -> usize
     requires { ⌜ from ≤ n ⌝ }
-    requires { ⌜ n ≤ length (now hashes) ⌝ }
+    requires { ⌜ n ≤ length (now tags) ⌝ }
     ensures { λ r. ⌜ from ≤ r ⌝ }
     ensures { λ r. ⌜ r ≤ n ⌝ }
-    ensures { λ r. ⌜ store.None (store.in-table (now (hashes .entry)) table) from r ⌝ }
+    ensures { λ r. ⌜ store.None (store.in-table (now (tags .entry)) table) from r ⌝ }
 {
     let mut i = from;
     while NEAR <= n - i {
-        if near_table(hashes, i, table) {
+        if near_table(tags, i, table) {
             return i;
         }
         i += NEAR;
@@ -115,17 +135,17 @@ fn skip_to_table(hashes: &[u64], from: usize, n: usize, table: usize) -> usize
 }
 
 // The first record from `from` on that is of the table, else n.
-pub fn next_in(hashes: &[u64], from: usize, n: usize, table: usize) -> usize
+pub fn next_in(tags: &[u16], from: usize, n: usize, table: usize) -> usize
     requires { ⌜ from ≤ n ⌝ }
-    requires { ⌜ n ≤ length (now hashes) ⌝ }
+    requires { ⌜ n ≤ length (now tags) ⌝ }
     ensures { λ r. ⌜ from ≤ r ⌝ }
     ensures { λ r. ⌜ r ≤ n ⌝ }
-    ensures { λ r. ⌜ store.None (store.in-table (now (hashes .entry)) table) from r ⌝ }
-    ensures { λ r. ⌜ (r < n → store.in-table (now (hashes .entry)) table r ≡ true) ⌝ }
+    ensures { λ r. ⌜ store.None (store.in-table (now (tags .entry)) table) from r ⌝ }
+    ensures { λ r. ⌜ (r < n → store.in-table (now (tags .entry)) table r ≡ true) ⌝ }
 {
-    let mut i = skip_to_table(hashes, from, n, table);
+    let mut i = skip_to_table(tags, from, n, table);
     while i < n {
-        if store::table_at(hashes, i) == table {
+        if store::table_at(tags, i) == table {
             return i;
         }
         i += 1;

@@ -5,7 +5,7 @@ use Prim.Native.Nat.{ℕ}
 use native.Mathlib.Omega.{arith}
 use borrow.Author.Tests.{eq-eqb, eqb-true, lt-ltb}
 use lib.Dec.{eqb}
-use Rattle.sender.specs.Sender.{Tells, Ranged, pick, words-of, unit-of, name-of}
+use Rattle.sender.specs.Sender.{Tells, Ranged, pick, words-of, unit-of, name-by-hash, name-of}
 use Rattle.sender.specs.declared.Group.the-variants.{V4, V6}
 use Rattle.sender.specs.declared.Unit as unit
 use Rattle.sender.specs.declared.Unit.the-variants.{Corroborated, Group as Grouped, NoAddress, Overflow}
@@ -47,7 +47,7 @@ pub words-injective : (u v : unit.Unit) → words-of u ≡ words-of v → u ≡ 
 words-injective u v e = sym (named-back u) ∙ ap named e ∙ named-back v
 
 pub name-injective : (u v : unit.Unit) → name-of u ≡ name-of v → u ≡ v
-unfolding name-of
+unfolding name-by-hash
 name-injective u v e = words-injective u v (ap (λ (n : Name). n .words) e)
 
 -- two units are told apart by their words

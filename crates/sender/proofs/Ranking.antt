@@ -1,10 +1,11 @@
--- The table of a hash is its six highest bits, and below 64.
+-- The table of a hash is its six highest bits, and below 64; it is the table of the hash's tag.
 use mathlib.Core.Path.{_≡_, ap, _∙_}
-use Prim.Native.Nat.{ℕ, _/_, _^_, _<_}
+use Prim.Native.Nat.{ℕ, _+_, _*_, _/_, _%_, _^_, _<_}
+use native.Mathlib.Omega.{arith}
 use native.Mathlib.Nat.{mul-comm, div-div-eq-div-mul, mul-div-mul-right}
 use lib.Dec.{lit<}
 use lib.Pow.{shr-lt}
-use Rattle.sender.specs.Sender.{table-of-hash, table-of}
+use Rattle.sender.specs.Sender.{table-of-hash, table-of, tag-of-hash, table-of-tag}
 use Rattle.sender.specs.declared.Unit as unit
 use Rattle.sender.proofs.Feeding.{hash-below}
 
@@ -17,3 +18,10 @@ table-is hash =
 
 pub table-below : (u : unit.Unit) → table-of u < 64
 table-below u = rw table-is (shr-lt 6 58 (hash-below u))
+
+tenfold : (t r : ℕ) → r < 1024 → (1024 * t + r) / 1024 ≡ t
+tenfold t r h = omega arith
+
+pub tag-table : (hash : ℕ) → table-of-tag (tag-of-hash hash) ≡ table-of-hash hash
+unfolding tag-of-hash table-of-tag
+tag-table hash = tenfold (table-of-hash hash) (hash % 1024) (omega arith)

@@ -1,5 +1,5 @@
 -- A unit's bytes, hash, rank and table, and its words in memory. Definitions only.
-use Prim.Native.Nat.{ℕ, _+_, _*_, _/_, _^_, _<_, min}
+use Prim.Native.Nat.{ℕ, _+_, _*_, _/_, _%_, _^_, _<_, min}
 use mathlib.Core.Path.{_≡_}
 use mathlib.Core.Bool.{Bool, true, false}
 use mathlib.Core.List.{List, [], _∷_, _++_}
@@ -55,6 +55,14 @@ rank-of-hash hash = Ieee.div binary64 (exact (hash / 2 ^ 11)) (ofBits binary64 0
 unfoldable pub table-of-hash : ℕ → ℕ
 table-of-hash hash = 64 * (hash / 2 ^ 11) / 2 ^ 53
 
+-- ---- the tag: what a record keeps of the hash, in 16 bits: the table, and the ten lowest bits, in which most hashes of one
+-- table differ
+unfoldable pub tag-of-hash : ℕ → ℕ
+tag-of-hash hash = 1024 * table-of-hash hash + hash % 1024
+
+unfoldable pub table-of-tag : ℕ → ℕ
+table-of-tag tag = tag / 1024
+
 -- the table as the Rust takes it from the rank: the double product with 64.0 (0x4050_0000_0000_0000), cut to its whole part,
 -- and at most 63. `rust-table-is` shows that this is the same table
 unfoldable pub rust-table : Float → ℕ
@@ -99,8 +107,11 @@ unit-of w =
     (pick (eqb (w .kind) 2) (pick (ltb (w .a) 4294967296) (Grouped (V6 (w .a))) Overflow)
     (pick (eqb (w .kind) 3) NoAddress Overflow)))
 
-unfoldable pub name-of : unit.Unit → Name
-name-of u = record { hash = hash-of u; words = words-of u }
+unfoldable pub name-by-hash : unit.Unit → ℕ → Name
+name-by-hash u hash = record { tag = tag-of-hash hash; words = words-of u }
+
+abbrev pub name-of : unit.Unit → Name
+name-of u = name-by-hash u (hash-of u)
 
 unfoldable pub is-overflow : unit.Unit → Bool
 is-overflow (Corroborated k) = false

@@ -49,6 +49,19 @@ pub fn table_of_hash(hash: u64) -> usize
     (hash / 288230376151711744) as usize
 }
 
+// What a record keeps of the hash.
+pub fn tag_of_hash(hash: u64) -> u16
+    ensures { λ r. ⌜ r ≡ sender.tag-of-hash hash ⌝ }
+{
+    (1024 * (hash / 288230376151711744) + hash % 1024) as u16
+}
+
+pub fn table_of_tag(tag: u16) -> usize
+    ensures { λ r. ⌜ (r ≡ sender.table-of-tag tag) × (r < 64) ⌝ }
+{
+    (tag / 1024) as usize
+}
+
 pub fn rank(unit: Unit) -> f64
     ensures { λ r. ⌜ r ≡ sender.rank unit ⌝ }
 {

@@ -9,8 +9,10 @@ pub use hash::hash_of;
 pub use hash::rank;
 pub use hash::rank_of_hash;
 pub use hash::table_of;
-pub use hash::table_of_hash;
+pub use hash::table_of_tag;
+pub use hash::tag_of_hash;
 pub use memory::is_overflow;
+pub use memory::name_by_hash;
 pub use memory::name_of;
 pub use memory::same_unit;
 pub use memory::unit_of;
@@ -47,9 +49,9 @@ pub struct Words {
     pub d: u64,
 }
 
-// What a record keeps of its unit: the hash, which a search reads first, and the words.
+// What a record keeps of its unit: the tag, which a search reads first, and the words.
 pub struct Name {
-    pub hash: u64,
+    pub tag: u16,
     pub words: Words,
 }
 

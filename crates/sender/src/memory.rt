@@ -8,6 +8,7 @@ use super::PublicKey;
 use super::Unit;
 use super::Words;
 use super::hash::hash_of;
+use super::hash::tag_of_hash;
 
 fn number(kind: u64, a: u64) -> Words
     ensures { λ r. ⌜ r ≡ sender.number kind a ⌝ }
@@ -73,13 +74,20 @@ pub fn unit_of(w: Words) -> Unit
     Unit::Overflow
 }
 
+// The name of a unit whose hash is known.
+pub fn name_by_hash(unit: Unit, hash: u64) -> Name
+    ensures { λ r. ⌜ r ≡ sender.name-by-hash unit hash ⌝ }
+{
+    Name {
+        tag: tag_of_hash(hash),
+        words: words_of(unit),
+    }
+}
+
 pub fn name_of(unit: Unit) -> Name
     ensures { λ r. ⌜ r ≡ sender.name-of unit ⌝ }
 {
-    Name {
-        hash: hash_of(unit),
-        words: words_of(unit),
-    }
+    name_by_hash(unit, hash_of(unit))
 }
 
 pub fn is_overflow(unit: Unit) -> bool

@@ -8,30 +8,28 @@ use Rattle.verdict.specs.Verdict as verdicts
 use Rattle.flow.specs.declared.Use.{Use}
 use Rattle.verdict.specs.declared.Outcome.{Outcome}
 use Rattle.sender.specs.declared.Unit.{Unit}
-use Rattle.sender.specs.declared.Name.{Name}
-use Rattle.sender.specs.Sender.{name-of, hash-of}
+use Rattle.sender.specs.Sender.{hash-of}
 use Rattle.store.specs.Store.{Rows, rows}
 use Rattle.head.specs.declared.Flow.{Flow}
 use Rattle.head.specs.declared.Shedder.{Shedder}
 use Rattle.entry.specs.declared.Place.{Place}
 use Rattle.entry.specs.Entering.{Entered, entered, entry, used-at, Back, back, put-back, headed}
-use Rattle.entry.proofs.Names.{named-hash}
 use Rattle.shed.specs.Judging.{rank-at, outcome, outcome-at, flowed, Through, passing, judged-at, judged}
 
-pub judged-is : (h : Shedder) (m : Rows) (u : Unit) (n : Name) (cost : List Float) (now : ℕ)
+pub judged-is : (h : Shedder) (m : Rows) (u : Unit) (k : ℕ) (cost : List Float) (now : ℕ)
     (p : Place) (i1 : List ℕ) (u1 u2 : List (List ℕ)) (s1 s2 : List (List Float)) (x sh : Use) (r : Float) (o : Outcome) (f : Flow)
-    → n ≡ name-of u
+    → k ≡ hash-of u
     → entered p (rows i1 u1 s1) ≡ entry m (h .tracked) (h .«unit_room») u now
     → x ≡ used-at u1 s1 (h .overflow) (p .at)
-    → r ≡ rank-at (n .hash) (p .at) (h .«unit_room»)
+    → r ≡ rank-at k (p .at) (h .«unit_room»)
     → o ≡ outcome (h .flow) (h .level) x r cost now
     → back sh u2 s2 ≡ put-back u1 s1 (h .overflow) (p .at) (o .used)
     → f ≡ flowed (h .flow) o cost now
     → _≡_ {A = Through} (record { verdict = o .verdict; head = headed h f sh (p .tracked); rows = rows i1 u2 s2 }) (judged h m u cost now)
 unfolding judged
-judged-is h m u n cost now p i1 u1 u2 s1 s2 x sh r o f eN eE eU eR eO eB eF =
+judged-is h m u k cost now p i1 u1 u2 s1 s2 x sh r o f eN eE eU eR eO eB eF =
     let E : Entered = entered p (rows i1 u1 s1) in
-    let er : r ≡ rank-at (hash-of u) (p .at) (h .«unit_room») = eR ∙ ap (λ (k : ℕ). rank-at k (p .at) (h .«unit_room»)) (named-hash n u eN) in
+    let er : r ≡ rank-at (hash-of u) (p .at) (h .«unit_room») = eR ∙ ap (λ (k : ℕ). rank-at k (p .at) (h .«unit_room»)) eN in
     let eo : o ≡ outcome-at h u cost now E =
     eO ∙ ap (λ (x : Use). outcome (h .flow) (h .level) x r cost now) eU
     ∙ ap (λ (r : Float). outcome (h .flow) (h .level) (used-at u1 s1 (h .overflow) (p .at)) r cost now) er in

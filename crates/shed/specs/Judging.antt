@@ -65,7 +65,7 @@ abbrev pub passing : Shedder → ℕ → List Float → Entered → Outcome → 
 passing h now cost e o b = record {
   verdict = o .verdict;
   head = headed h (flowed (h .flow) o cost now) (b .overflow) (e .place .tracked);
-  rows = rows (e .rows .hashes) (b .units) (b .uses);
+  rows = rows (e .rows .tags) (b .units) (b .uses);
 }
 
 -- the outcome at an entered place
@@ -127,7 +127,7 @@ bounded h m u cost stamp = bounded-passed m u cost (max stamp (h .flow .«at_ms�
 -- THE JUDGEMENT: the first question answered no gives its number and nothing changes; an unbounded relay admits, nothing changes, and 9 is not asked, since no record is sought
 unfoldable pub judge : Shedder → Memory → unit.Unit → List ℕ → ℕ → Judged
 judge h m u cost stamp =
-    choose (eqb (judge-asked h (length (m .rows .hashes)) (length (m .rows .units)) (length (m .rows .uses)) (length (m .counted)) cost stamp) 0)
+    choose (eqb (judge-asked h (length (m .rows .tags)) (length (m .rows .units)) (length (m .rows .uses)) (length (m .counted)) cost stamp) 0)
     (choose (is-unbounded (h .flow .rate)) (judge-ends answer.Admitted h m)
-    (choose (is-misplaced (m .rows .hashes) (m .rows .units) (h .tracked) (sender.name-of u)) (judge-ends (answer.Refused 9) h m) (bounded h m u cost stamp)))
-    (judge-ends (answer.Refused (judge-asked h (length (m .rows .hashes)) (length (m .rows .units)) (length (m .rows .uses)) (length (m .counted)) cost stamp)) h m)
+    (choose (is-misplaced (m .rows .tags) (m .rows .units) (h .tracked) (sender.name-of u)) (judge-ends (answer.Refused 9) h m) (bounded h m u cost stamp)))
+    (judge-ends (answer.Refused (judge-asked h (length (m .rows .tags)) (length (m .rows .units)) (length (m .rows .uses)) (length (m .counted)) cost stamp)) h m)

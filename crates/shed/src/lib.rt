@@ -121,23 +121,25 @@ pub struct Passed {
 // A judgement on the record that is found, added or overflow's.
 fn judged(
     head: Shedder,
-    hashes: &mut [u64],
+    tags: &mut [u16],
     units: &mut [[u64; 7]],
     uses: &mut [[f64; 2 * DIMS]],
     unit: Unit,
+    hash: u64,
     name: Name,
     i: usize,
     cost: [f64; DIMS],
     clock: u64,
 ) -> Passed
-    requires { ⌜ length (now hashes) ≡ head .«unit_room» ⌝ }
+    requires { ⌜ length (now tags) ≡ head .«unit_room» ⌝ }
     requires { ⌜ length (now units) ≡ head .«unit_room» ⌝ }
     requires { ⌜ length (now uses) ≡ head .«unit_room» ⌝ }
     requires { ⌜ head .tracked ≤ head .«unit_room» ⌝ }
     requires { ⌜ clock ≤ 2 ^ 53 ⌝ }
     requires { ⌜ name ≡ sender.name-of unit ⌝ }
-    requires { ⌜ i ≡ store.find (now hashes) (now units) name (head .tracked) ⌝ }
-    ensures { λ r. ⌜ judging.passed r (store.rows (now (hashes .exit)) (now (units .exit)) (now (uses .exit))) ≡ judging.judged head (store.rows (now (hashes .entry)) (now (units .entry)) (now (uses .entry))) unit cost clock ⌝ }
+    requires { ⌜ i ≡ store.find (now tags) (now units) name (head .tracked) ⌝ }
+    requires { ⌜ hash ≡ sender.hash-of unit ⌝ }
+    ensures { λ r. ⌜ judging.passed r (store.rows (now (tags .exit)) (now (units .exit)) (now (uses .exit))) ≡ judging.judged head (store.rows (now (tags .entry)) (now (units .entry)) (now (uses .entry))) unit cost clock ⌝ }
     ensures { λ r. ⌜ r .head .tracked ≤ head .«unit_room» ⌝ }
     ensures { λ r. ⌜ r .head .counted ≡ head .counted ⌝ }
     ensures { λ r. ⌜ r .head .scan ≡ head .scan ⌝ }
@@ -147,7 +149,7 @@ fn judged(
     let room = head.unit_room;
     let overflow = head.overflow;
     let p = entry::entry(
-        hashes,
+        tags,
         units,
         uses,
         head.tracked,
@@ -159,7 +161,7 @@ fn judged(
     );
     let at = p.at;
     let used = entry::used_at(units, uses, overflow, at);
-    let o = outcome(f, level, used, rank_at(name.hash, at, room), cost, clock);
+    let o = outcome(f, level, used, rank_at(hash, at, room), cost, clock);
     let next = o.used;
     let shared = entry::put_back(units, uses, overflow, at, next);
     let flow = flowed(f, o, cost, clock);
@@ -186,32 +188,35 @@ fn answer_of(verdict: Verdict) -> Answer
 // A judgement of a bounded relay, once the questions are answered yes: verdict, count, scan.
 fn bounded(
     head: Shedder,
-    hashes: &mut [u64],
+    tags: &mut [u16],
     units: &mut [[u64; 7]],
     uses: &mut [[f64; 2 * DIMS]],
     counts: &mut [[u32; 768]; DIMS],
     sums: &mut [[f64; 768]; DIMS],
     counted: &mut [[u64; 8]],
     unit: Unit,
+    hash: u64,
     name: Name,
     i: usize,
     cost: [u64; DIMS],
     stamp: u64,
 ) -> Judgement
+    requires { ⌜ hash ≡ sender.hash-of unit ⌝ }
     requires { ⌜ name ≡ sender.name-of unit ⌝ }
-    requires { ⌜ i ≡ store.find (now hashes) (now units) name (head .tracked) ⌝ }
-    requires { ⌜ asked.Ready head (length (now hashes)) (length (now units)) (length (now uses)) (length (now counted)) stamp ⌝ }
-    ensures { λ r. ⌜ judging.judgement r (judging.memory (store.rows (now (hashes .exit)) (now (units .exit)) (now (uses .exit))) (wants.hist (now (counts .exit)) (now (sums .exit))) (now (counted .exit))) ≡ judging.bounded head (judging.memory (store.rows (now (hashes .entry)) (now (units .entry)) (now (uses .entry))) (wants.hist (now (counts .entry)) (now (sums .entry))) (now (counted .entry))) unit cost stamp ⌝ }
+    requires { ⌜ i ≡ store.find (now tags) (now units) name (head .tracked) ⌝ }
+    requires { ⌜ asked.Ready head (length (now tags)) (length (now units)) (length (now uses)) (length (now counted)) stamp ⌝ }
+    ensures { λ r. ⌜ judging.judgement r (judging.memory (store.rows (now (tags .exit)) (now (units .exit)) (now (uses .exit))) (wants.hist (now (counts .exit)) (now (sums .exit))) (now (counted .exit))) ≡ judging.bounded head (judging.memory (store.rows (now (tags .entry)) (now (units .entry)) (now (uses .entry))) (wants.hist (now (counts .entry)) (now (sums .entry))) (now (counted .entry))) unit cost stamp ⌝ }
     ensures { λ r. ⌜ answers.judge-number (r .answer) ≡ 0 ⌝ }
 {
     let f = head.flow;
     let clock = later(stamp, f.at_ms);
     let p = judged(
         head,
-        hashes,
+        tags,
         units,
         uses,
         unit,
+        hash,
         name,
         i,
         flow::numbers(cost),
@@ -221,7 +226,7 @@ fn bounded(
     let verdict = p.verdict;
     let w = name.words;
     let t = tally::told(h, counted, w, verdict, cost);
-    let s = scan::scanned(t, hashes, units, uses, counts, sums, clock);
+    let s = scan::scanned(t, tags, units, uses, counts, sums, clock);
     let answer = answer_of(verdict);
     Judgement { answer, head: s }
 }
@@ -229,7 +234,7 @@ fn bounded(
 // Whether a unit's batch of this cost, stamped so, is admitted. A cut is counted. A refusal changes nothing.
 pub fn judge(
     head: Shedder,
-    hashes: &mut [u64],
+    tags: &mut [u16],
     units: &mut [[u64; 7]],
     uses: &mut [[f64; 2 * DIMS]],
     counts: &mut [[u32; 768]; DIMS],
@@ -239,12 +244,12 @@ pub fn judge(
     cost: [u64; DIMS],
     stamp: u64,
 ) -> Judgement
-    ensures { λ r. ⌜ judging.judgement r (judging.memory (store.rows (now (hashes .exit)) (now (units .exit)) (now (uses .exit))) (wants.hist (now (counts .exit)) (now (sums .exit))) (now (counted .exit))) ≡ judging.judge head (judging.memory (store.rows (now (hashes .entry)) (now (units .entry)) (now (uses .entry))) (wants.hist (now (counts .entry)) (now (sums .entry))) (now (counted .entry))) unit cost stamp ⌝ }
-    ensures { λ r. ⌜ answers.judge-number (r .answer) ≡ asked.judge-asked head (length (now (hashes .entry))) (length (now (units .entry))) (length (now (uses .entry))) (length (now (counted .entry))) cost stamp ⌝ }
+    ensures { λ r. ⌜ judging.judgement r (judging.memory (store.rows (now (tags .exit)) (now (units .exit)) (now (uses .exit))) (wants.hist (now (counts .exit)) (now (sums .exit))) (now (counted .exit))) ≡ judging.judge head (judging.memory (store.rows (now (tags .entry)) (now (units .entry)) (now (uses .entry))) (wants.hist (now (counts .entry)) (now (sums .entry))) (now (counted .entry))) unit cost stamp ⌝ }
+    ensures { λ r. ⌜ answers.judge-number (r .answer) ≡ asked.judge-asked head (length (now (tags .entry))) (length (now (units .entry))) (length (now (uses .entry))) (length (now (counted .entry))) cost stamp ⌝ }
 {
     let no = head::judge_asked(
         head,
-        hashes.len(),
+        tags.len(),
         units.len(),
         uses.len(),
         counted.len(),
@@ -265,9 +270,10 @@ pub fn judge(
             head,
         };
     }
-    let name = sender::name_of(unit);
-    let i = search::find(hashes, units, head.tracked, name);
-    if entry::is_misplaced(hashes, units, head.tracked, name, i) {
+    let hash = sender::hash_of(unit);
+    let name = sender::name_by_hash(unit, hash);
+    let i = search::find(tags, units, head.tracked, name);
+    if entry::is_misplaced(tags, units, head.tracked, name, i) {
         return Judgement {
             answer: Answer::Refused(9),
             head,
@@ -275,13 +281,14 @@ pub fn judge(
     }
     bounded(
         head,
-        hashes,
+        tags,
         units,
         uses,
         counts,
         sums,
         counted,
         unit,
+        hash,
         name,
         i,
         cost,

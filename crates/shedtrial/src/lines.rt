@@ -34,7 +34,7 @@ fn flushed(mut t: Trial, page: &[u8]) -> Trial {
 // Answers the line that is kept.
 fn ended(
     s: Served,
-    hashes: &mut [u64; UNITS],
+    tags: &mut [u16; UNITS],
     units: &mut [[u64; 7]; UNITS],
     uses: &mut [[f64; 2 * DIMS]; UNITS],
     counts: &mut [[u32; 768]; DIMS],
@@ -45,7 +45,7 @@ fn ended(
 ) -> Served {
     let t = s.trial;
     let whole = front(line, s.len);
-    let a = trial::answer(t, hashes, units, uses, counts, sums, counted, whole, page);
+    let a = trial::answer(t, tags, units, uses, counts, sums, counted, whole, page);
     let f = flushed(a, page);
     Served {
         trial: f,
@@ -57,7 +57,7 @@ fn ended(
 // Answers each line that ends in a block of the input, and keeps what stands behind the last.
 fn block(
     served: Served,
-    hashes: &mut [u64; UNITS],
+    tags: &mut [u16; UNITS],
     units: &mut [[u64; 7]; UNITS],
     uses: &mut [[f64; 2 * DIMS]; UNITS],
     counts: &mut [[u32; 768]; DIMS],
@@ -72,7 +72,7 @@ fn block(
     while i < input.len() {
         let x = input[i];
         if x == FEED {
-            s = ended(s, hashes, units, uses, counts, sums, counted, line, page);
+            s = ended(s, tags, units, uses, counts, sums, counted, line, page);
         } else {
             s.len = script::keep(line, s.len, x);
         }
@@ -84,7 +84,7 @@ fn block(
 // Reads once, and answers the lines that came.
 fn turn(
     mut s: Served,
-    hashes: &mut [u64; UNITS],
+    tags: &mut [u16; UNITS],
     units: &mut [[u64; 7]; UNITS],
     uses: &mut [[f64; 2 * DIMS]; UNITS],
     counts: &mut [[u32; 768]; DIMS],
@@ -102,7 +102,7 @@ fn turn(
     }
     block(
         s,
-        hashes,
+        tags,
         units,
         uses,
         counts,
@@ -117,7 +117,7 @@ fn turn(
 // Answers a last line that has no line end, and writes what is left of the page.
 fn finish(
     s: Served,
-    hashes: &mut [u64; UNITS],
+    tags: &mut [u16; UNITS],
     units: &mut [[u64; 7]; UNITS],
     uses: &mut [[f64; 2 * DIMS]; UNITS],
     counts: &mut [[u32; 768]; DIMS],
@@ -131,14 +131,14 @@ fn finish(
         io::write_all(STDOUT_FILENO, front(page, t.at));
         return;
     }
-    let e = ended(s, hashes, units, uses, counts, sums, counted, line, page);
+    let e = ended(s, tags, units, uses, counts, sums, counted, line, page);
     let t = e.trial;
     io::write_all(STDOUT_FILENO, front(page, t.at));
 }
 
 // The whole input. Nothing says that an input ends, so the turns are counted down from a number that no run uses up.
 pub fn serve() {
-    let mut hashes = [0u64; UNITS];
+    let mut tags = [0u64; UNITS];
     let unit = [0u64; 7];
     let mut units = [unit; UNITS];
     let used = [0.0; 2 * DIMS];
@@ -160,7 +160,7 @@ pub fn serve() {
     while turns > 0 {
         s = turn(
             s,
-            &mut hashes,
+            &mut tags,
             &mut units,
             &mut uses,
             &mut counts,
@@ -176,7 +176,7 @@ pub fn serve() {
     }
     finish(
         s,
-        &mut hashes,
+        &mut tags,
         &mut units,
         &mut uses,
         &mut counts,

@@ -14,7 +14,7 @@ use Rattle.store.proofs.Steps.{retained-still, retained-next}
 
 -- place i of one memory holds what place j of another does
 unfoldable pub Same : Rows → ℕ → Rows → ℕ → Type 0
-Same m i m' j = (getD (m .hashes) i 0 ≡ getD (m' .hashes) j 0) × (getD (m .units) i [] ≡ getD (m' .units) j []) × (getD (m .uses) i [] ≡ getD (m' .uses) j [])
+Same m i m' j = (getD (m .tags) i 0 ≡ getD (m' .tags) j 0) × (getD (m .units) i [] ≡ getD (m' .units) j []) × (getD (m .uses) i [] ≡ getD (m' .uses) j [])
 
 pub same-self : (x : Rows) (j : ℕ) → Same x j x j
 unfolding Same
@@ -40,14 +40,14 @@ Before m from k = (from ≤ k .count) × ((j : ℕ) → j < from → Same (k .ro
 module _ (m : Rows) (t a from : ℕ) where
   one-before : (k : Kept) (n : ℕ) → from ≤ n → Before m from k → Before m from (retain-one k t a n)
   unfolding retain-one Before
-  one-before k n h w = by (is-stale (k .rows .hashes) (k .rows .units) t a n) (ltb (k .count) n)
+  one-before k n h w = by (is-stale (k .rows .tags) (k .rows .units) t a n) (ltb (k .count) n)
     where
       by : (b c : Bool) → Before m from (either b (kept (k .count) (freed (k .rows) n)) (either c (kept (k .count + 1) (moved (k .rows) n (k .count))) (kept (k .count + 1) (k .rows))))
       by true c = (w .0, λ j l. same-join (freed (k .rows) n) (k .rows) m j (freed-other (k .rows) n j (λ q. absurd (omega arith))) (w .1 j l))
       by false true = (omega (arith, w .0), λ j l. same-join (moved (k .rows) n (k .count)) (k .rows) m j (moved-other (k .rows) n (k .count) j (λ q. absurd (omega arith)) (λ q. absurd (omega (arith, w .0)))) (w .1 j l))
       by false false = (omega (arith, w .0), w .1)
 
-  module _ (still : None (is-stale (m .hashes) (m .units) t a) 0 from) where
+  module _ (still : None (is-stale (m .tags) (m .units) t a) 0 from) where
     past-before : (d : ℕ) → Before m from (retained m t a (from + d))
     unfolding Before
     past-before zero = subst (Before m from) (sym (ap (retained m t a) (add-zero from) ∙ retained-still m t a from still)) (omega arith, λ j l. same-self m j)

@@ -18,12 +18,12 @@ dims = flow.dims
 
 -- the lent lists: a record is one place of each
 pub record Rows : Type 0 where
-  pub hashes : List ℕ
+  pub tags : List ℕ
   pub units : List (List ℕ)
   pub uses : List (List Float)
 
 abbrev pub rows : List ℕ → List (List ℕ) → List (List Float) → Rows
-rows hashes units uses = record { hashes = hashes; units = units; uses = uses }
+rows tags units uses = record { tags = tags; units = units; uses = uses }
 
 -- ---- a use as floats
 unfoldable pub part : List Float → ℕ → List Float
@@ -72,7 +72,7 @@ uses-put uses i u = set uses i (joined (u .attempted) (u .credit))
 
 unfoldable pub added : Rows → ℕ → Name → Use → Rows
 added m i name u = record {
-  hashes = set (m .hashes) i (name .hash);
+  tags = set (m .tags) i (name .tag);
   units = set (m .units) i (name .words .kind ∷ name .words .a ∷ name .words .b ∷ name .words .c ∷ name .words .d ∷ u .«at_ms» ∷ mark (u .fresh) ∷ []);
   uses = set (m .uses) i (joined (u .attempted) (u .credit));
 }
@@ -84,9 +84,9 @@ same v w =
     cond (eqb (v .kind) (w .kind))
     (cond (eqb (v .a) (w .a)) (cond (eqb (v .b) (w .b)) (cond (eqb (v .c) (w .c)) (eqb (v .d) (w .d)) false) false) false) false
 
--- the record at i is the unit's: hash and words; one whose hash word is not its unit's is not found
+-- the record at i is the unit's: tag and words; one whose tag is not its unit's is not found
 unfoldable pub is-at : List ℕ → List (List ℕ) → Name → ℕ → Bool
-is-at hashes units name i = cond (eqb (getD hashes i 0) (name .hash)) (same (words-at units i) (name .words)) false
+is-at tags units name i = cond (eqb (getD tags i 0) (name .tag)) (same (words-at units i) (name .words)) false
 
 -- the first of n at which p holds, else n
 unfoldable pub first : (ℕ → Bool) → ℕ → ℕ
@@ -94,42 +94,42 @@ first p zero = zero
 first p (suc n) = cond (ltb (first p n) n) (first p n) (cond (p n) n (suc n))
 
 unfoldable pub find : List ℕ → List (List ℕ) → Name → ℕ → ℕ
-find hashes units name n = first (is-at hashes units name) n
+find tags units name n = first (is-at tags units name) n
 
 -- p holds at none of the places from i up to j
 abbrev pub None : (ℕ → Bool) → ℕ → ℕ → Type 0
 None p i j = (k : ℕ) → i ≤ k → k < j → p k ≡ false
 
--- the lower 32 bits of a word: hashes that differ there differ
-abbrev pub lower : ℕ → ℕ
-lower word = word % 2 ^ 32
+unfoldable pub has-tag : List ℕ → ℕ → ℕ → Bool
+has-tag tags tag i = eqb (getD tags i 0) tag
 
-unfoldable pub has-hash : List ℕ → ℕ → ℕ → Bool
-has-hash hashes hash i = eqb (getD hashes i 0) hash
+-- the lower 16 bits of a number
+abbrev pub lower : ℕ → ℕ
+lower n = n % 2 ^ 16
 
 -- ---- retain
--- a record stands in the table that its hash word names
+-- a record stands in the table that its tag names
 unfoldable pub table-at : List ℕ → ℕ → ℕ
-table-at hashes i = sender.table-of-hash (getD hashes i 0)
+table-at tags i = sender.table-of-tag (getD tags i 0)
 
 unfoldable pub in-table : List ℕ → ℕ → ℕ → Bool
-in-table hashes table i = eqb (table-at hashes i) table
+in-table tags table i = eqb (table-at tags i) table
 
 abbrev pub since : ℕ → ℕ → ℕ
 since now at = now - at
 
 -- of the table, and more than 8,000 milliseconds old
 unfoldable pub is-stale : List ℕ → List (List ℕ) → ℕ → ℕ → ℕ → Bool
-is-stale hashes units table now i = cond (in-table hashes table i) (ltb 8000 (since now (stamp-at units i))) false
+is-stale tags units table now i = cond (in-table tags table i) (ltb 8000 (since now (stamp-at units i))) false
 
 -- a freed place is zero bits
 unfoldable pub freed : Rows → ℕ → Rows
-freed m i = record { hashes = set (m .hashes) i 0; units = set (m .units) i (replicate 7 0); uses = set (m .uses) i (replicate (dims + dims) nothing) }
+freed m i = record { tags = set (m .tags) i 0; units = set (m .units) i (replicate 7 0); uses = set (m .uses) i (replicate (dims + dims) nothing) }
 
 -- the record at i stands at j, and i is freed
 unfoldable pub moved : Rows → ℕ → ℕ → Rows
 moved m i j = record {
-  hashes = set (set (m .hashes) i 0) j (getD (m .hashes) i 0);
+  tags = set (set (m .tags) i 0) j (getD (m .tags) i 0);
   units = set (set (m .units) i (replicate 7 0)) j (unit-row (m .units) i);
   uses = set (set (m .uses) i (replicate (dims + dims) nothing)) j (getD (m .uses) i []);
 }
@@ -149,7 +149,7 @@ either false a b = b
 
 unfoldable pub retain-one : Kept → ℕ → ℕ → ℕ → Kept
 retain-one k table now i =
-    either (is-stale (k .rows .hashes) (k .rows .units) table now i) (kept (k .count) (freed (k .rows) i))
+    either (is-stale (k .rows .tags) (k .rows .units) table now i) (kept (k .count) (freed (k .rows) i))
     (either (ltb (k .count) i) (kept (k .count + 1) (moved (k .rows) i (k .count))) (kept (k .count + 1) (k .rows)))
 
 -- the first n records, one after the other

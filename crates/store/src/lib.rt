@@ -14,7 +14,7 @@ use flow::Use;
 use sender::Name;
 use sender::Words;
 
-// ---- a record: a hash, a row of the unit's words, stamp and fresh mark, and a row of floats
+// ---- a record: a tag, a row of the unit's words, stamp and fresh mark, and a row of floats
 
 // The unit that the record is of.
 pub fn words_at(units: &[[u64; 7]], i: usize) -> Words
@@ -54,12 +54,12 @@ pub fn stamp_at(units: &[[u64; 7]], i: usize) -> u64
     units[i][5]
 }
 
-// The table of the record's hash word.
-pub fn table_at(hashes: &[u64], i: usize) -> usize
-    requires { ⌜ i < length (now hashes) ⌝ }
-    ensures { λ r. ⌜ r ≡ store.table-at (now (hashes .entry)) i ⌝ }
+// The table of the record's tag.
+pub fn table_at(tags: &[u16], i: usize) -> usize
+    requires { ⌜ i < length (now tags) ⌝ }
+    ensures { λ r. ⌜ r ≡ store.table-at (now (tags .entry)) i ⌝ }
 {
-    sender::table_of_hash(hashes[i])
+    sender::table_of_tag(tags[i])
 }
 
 // The use put into the record; its unit stays.
@@ -80,20 +80,20 @@ pub fn put_use(units: &mut [[u64; 7]], uses: &mut [[f64; 2 * DIMS]], i: usize, u
 
 // A record of the unit written at i.
 pub fn add(
-    hashes: &mut [u64],
+    tags: &mut [u16],
     units: &mut [[u64; 7]],
     uses: &mut [[f64; 2 * DIMS]],
     i: usize,
     name: Name,
     used: Use,
 )
-    requires { ⌜ i < length (now hashes) ⌝ }
+    requires { ⌜ i < length (now tags) ⌝ }
     requires { ⌜ i < length (now units) ⌝ }
     requires { ⌜ i < length (now uses) ⌝ }
-    ensures { λ r. ⌜ store.rows (now (hashes .exit)) (now (units .exit)) (now (uses .exit)) ≡ store.added (store.rows (now (hashes .entry)) (now (units .entry)) (now (uses .entry))) i name used ⌝ }
+    ensures { λ r. ⌜ store.rows (now (tags .exit)) (now (units .exit)) (now (uses .exit)) ≡ store.added (store.rows (now (tags .entry)) (now (units .entry)) (now (uses .entry))) i name used ⌝ }
 {
     let w = name.words;
-    hashes[i] = name.hash;
+    tags[i] = name.tag;
     units[i] = [w.kind, w.a, w.b, w.c, w.d, used.at_ms, mark(used.fresh)];
     let attempted = used.attempted;
     let credit = used.credit;

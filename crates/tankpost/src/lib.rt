@@ -30,7 +30,7 @@ pub struct Answered {
 #[no_mangle]
 pub extern "C" fn tankpost_start(
     head: Shedder,
-    hashes: &[u64],
+    tags: &[u16],
     units: &[[u64; 7]],
     uses: &[[f64; 2 * DIMS]],
     counts: &mut [[u32; 768]; DIMS],
@@ -39,11 +39,11 @@ pub extern "C" fn tankpost_start(
     rate: &[u64; DIMS],
     ceiling: &[u64; DIMS],
 ) -> Answered
-    ensures { λ r. ⌜ calls.started r (wants.hist (now (counts .exit)) (now (sums .exit))) ≡ calls.start-told (starts.start head (length (now (hashes .entry))) (length (now (units .entry))) (length (now (uses .entry))) (length (now (counted .entry))) (wants.hist (now (counts .entry)) (now (sums .entry))) (now (rate .entry)) (now (ceiling .entry))) ⌝ }
+    ensures { λ r. ⌜ calls.started r (wants.hist (now (counts .exit)) (now (sums .exit))) ≡ calls.start-told (starts.start head (length (now (tags .entry))) (length (now (units .entry))) (length (now (uses .entry))) (length (now (counted .entry))) (wants.hist (now (counts .entry)) (now (sums .entry))) (now (rate .entry)) (now (ceiling .entry))) ⌝ }
 {
     let s = head::start(
         head,
-        hashes,
+        tags,
         units,
         uses,
         counts,
@@ -64,7 +64,7 @@ pub extern "C" fn tankpost_start(
 #[no_mangle]
 pub extern "C" fn tankpost_judge(
     head: Shedder,
-    hashes: &mut [u64],
+    tags: &mut [u16],
     units: &mut [[u64; 7]],
     uses: &mut [[f64; 2 * DIMS]],
     counts: &mut [[u32; 768]; DIMS],
@@ -74,11 +74,11 @@ pub extern "C" fn tankpost_judge(
     cost: &[u64; DIMS],
     stamp: u64,
 ) -> Answered
-    ensures { λ r. ⌜ calls.judged r (judging.memory (store.rows (now (hashes .exit)) (now (units .exit)) (now (uses .exit))) (wants.hist (now (counts .exit)) (now (sums .exit))) (now (counted .exit))) ≡ calls.judge-told (judging.judge head (judging.memory (store.rows (now (hashes .entry)) (now (units .entry)) (now (uses .entry))) (wants.hist (now (counts .entry)) (now (sums .entry))) (now (counted .entry))) (sender.unit-of unit) (now (cost .entry)) stamp) ⌝ }
+    ensures { λ r. ⌜ calls.judged r (judging.memory (store.rows (now (tags .exit)) (now (units .exit)) (now (uses .exit))) (wants.hist (now (counts .exit)) (now (sums .exit))) (now (counted .exit))) ≡ calls.judge-told (judging.judge head (judging.memory (store.rows (now (tags .entry)) (now (units .entry)) (now (uses .entry))) (wants.hist (now (counts .entry)) (now (sums .entry))) (now (counted .entry))) (sender.unit-of unit) (now (cost .entry)) stamp) ⌝ }
 {
     let j = shed::judge(
         head,
-        hashes,
+        tags,
         units,
         uses,
         counts,
@@ -100,7 +100,7 @@ pub extern "C" fn tankpost_judge(
 #[no_mangle]
 pub extern "C" fn tankpost_cut(
     head: Shedder,
-    hashes: &mut [u64],
+    tags: &mut [u16],
     units: &mut [[u64; 7]],
     uses: &mut [[f64; 2 * DIMS]],
     counted: &mut [[u64; 8]],
@@ -108,11 +108,11 @@ pub extern "C" fn tankpost_cut(
     cause: u64,
     cost: &[u64; DIMS],
 ) -> Answered
-    ensures { λ r. ⌜ calls.cut r (store.rows (now (hashes .exit)) (now (units .exit)) (now (uses .exit))) (now (counted .exit)) ≡ calls.cut-told (cutting.cut head (store.rows (now (hashes .entry)) (now (units .entry)) (now (uses .entry))) (now (counted .entry)) (sender.unit-of unit) (numbers.cause-of cause) (now (cost .entry))) ⌝ }
+    ensures { λ r. ⌜ calls.cut r (store.rows (now (tags .exit)) (now (units .exit)) (now (uses .exit))) (now (counted .exit)) ≡ calls.cut-told (cutting.cut head (store.rows (now (tags .entry)) (now (units .entry)) (now (uses .entry))) (now (counted .entry)) (sender.unit-of unit) (numbers.cause-of cause) (now (cost .entry))) ⌝ }
 {
     let c = cut::cut(
         head,
-        hashes,
+        tags,
         units,
         uses,
         counted,
@@ -132,15 +132,15 @@ pub extern "C" fn tankpost_cut(
 #[no_mangle]
 pub extern "C" fn tankpost_report(
     head: Shedder,
-    hashes: &[u64],
+    tags: &[u16],
     units: &[[u64; 7]],
     uses: &[[f64; 2 * DIMS]],
     counted: &[[u64; 8]],
     out: &mut [u8],
 ) -> Count
-    ensures { λ r. ⌜ calls.reported r (now (out .exit)) ≡ calls.report-told (reports.report head (length (now (hashes .entry))) (length (now (units .entry))) (length (now (uses .entry))) (now (counted .entry)) (now (out .entry))) ⌝ }
+    ensures { λ r. ⌜ calls.reported r (now (out .exit)) ≡ calls.report-told (reports.report head (length (now (tags .entry))) (length (now (units .entry))) (length (now (uses .entry))) (now (counted .entry)) (now (out .entry))) ⌝ }
 {
-    let w = report::write_report(head, hashes, units, uses, counted, out);
+    let w = report::write_report(head, tags, units, uses, counted, out);
     numbers::read_written(w)
 }
 
@@ -148,15 +148,15 @@ pub extern "C" fn tankpost_report(
 #[no_mangle]
 pub extern "C" fn tankpost_report_refusal(
     head: Shedder,
-    hashes: &[u64],
+    tags: &[u16],
     units: &[[u64; 7]],
     uses: &[[f64; 2 * DIMS]],
     counted: &[[u64; 8]],
     out: &[u8],
 ) -> u64
-    ensures { λ r. ⌜ r ≡ reports.report-asked head (length (now (hashes .entry))) (length (now (units .entry))) (length (now (uses .entry))) (now (counted .entry)) (length (now (out .entry))) ⌝ }
+    ensures { λ r. ⌜ r ≡ reports.report-asked head (length (now (tags .entry))) (length (now (units .entry))) (length (now (uses .entry))) (now (counted .entry)) (length (now (out .entry))) ⌝ }
 {
-    report::report_refusal(head, hashes, units, uses, counted, out)
+    report::report_refusal(head, tags, units, uses, counted, out)
 }
 
 // ---- the readings

@@ -37,7 +37,7 @@ refused-step s n q e = ap (made (s .head) (s .started) (s .memory)) e
 module _ (s : State) where
   abbrev start-with : List ℕ → List ℕ → starts.Beginning
   start-with rate ceiling =
-      starts.start (s .head) (length (s .memory .rows .hashes)) (length (s .memory .rows .units)) (length (s .memory .rows .uses)) (length (s .memory .counted))
+      starts.start (s .head) (length (s .memory .rows .tags)) (length (s .memory .rows .units)) (length (s .memory .rows .uses)) (length (s .memory .counted))
       (s .memory .hist) rate ceiling
 
   pub start-step : (l : StartLine) (r : Starting) (g : Hist) (rate ceiling : List ℕ) (b : Bool) (q : Page) → rate ≡ of-dims (l .rate) → ceiling ≡ of-dims (l .ceiling)
@@ -85,10 +85,10 @@ module _ (s : State) where
 
   abbrev asked-with : ℕ → ℕ
   asked-with room =
-      report-asked (s .head) (length (s .memory .rows .hashes)) (length (s .memory .rows .units)) (length (s .memory .rows .uses)) (s .memory .counted) room
+      report-asked (s .head) (length (s .memory .rows .tags)) (length (s .memory .rows .units)) (length (s .memory .rows .uses)) (s .memory .counted) room
 
   abbrev front-with : ℕ → List ℕ
-  front-with room = front (s .head) (length (s .memory .rows .hashes)) (length (s .memory .rows .units)) (length (s .memory .rows .uses)) (s .memory .counted) room
+  front-with room = front (s .head) (length (s .memory .rows .tags)) (length (s .memory .rows .units)) (length (s .memory .rows .uses)) (s .memory .counted) room
 
   asked-is : (n room : ℕ) → n ≡ asked-with room → room ≡ 4096 → n ≡ asked s
   unfolding asked

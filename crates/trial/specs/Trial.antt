@@ -58,7 +58,7 @@ begun s b = record {
 unfoldable pub start : State → StartLine → State
 start s l =
     begun s
-    (starts.start (s .head) (length (s .memory .rows .hashes)) (length (s .memory .rows .units)) (length (s .memory .rows .uses)) (length (s .memory .counted))
+    (starts.start (s .head) (length (s .memory .rows .tags)) (length (s .memory .rows .units)) (length (s .memory .rows .uses)) (length (s .memory .counted))
     (s .memory .hist) (of-dims (l .rate)) (of-dims (l .ceiling)))
 
 -- document 01's question 8: no call before a start was taken
@@ -85,7 +85,7 @@ cut s l =
 -- the report's buffer has 4,096 bytes
 unfoldable pub asked : State → ℕ
 asked s =
-    report-asked (s .head) (length (s .memory .rows .hashes)) (length (s .memory .rows .units)) (length (s .memory .rows .uses)) (s .memory .counted) 4096
+    report-asked (s .head) (length (s .memory .rows .tags)) (length (s .memory .rows .units)) (length (s .memory .rows .uses)) (s .memory .counted) 4096
 
 abbrev pub reported : State → State
 reported s = record { head = s .head; started = s .started; memory = s .memory; page = write (s .page) (text (s .head) (s .memory .counted)) }

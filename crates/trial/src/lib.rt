@@ -114,7 +114,7 @@ fn refused(mut t: Trial, out: &mut [u8], n: u64) -> Trial
 
 fn start(
     t: Trial,
-    hashes: &[u64],
+    tags: &[u16],
     units: &[[u64; 7]],
     uses: &[[f64; 2 * DIMS]],
     counts: &mut [[u32; 768]; DIMS],
@@ -123,12 +123,12 @@ fn start(
     l: StartLine,
     out: &mut [u8],
 ) -> Trial
-    ensures { λ r. ⌜ trial.state r (memory (rows (now (hashes .entry)) (now (units .entry)) (now (uses .entry))) (hist (now (counts .exit)) (now (sums .exit))) (now (counted .entry))) (now (out .exit)) ≡ trial.start (trial.state t (memory (rows (now (hashes .entry)) (now (units .entry)) (now (uses .entry))) (hist (now (counts .entry)) (now (sums .entry))) (now (counted .entry))) (now (out .entry))) l ⌝ }
+    ensures { λ r. ⌜ trial.state r (memory (rows (now (tags .entry)) (now (units .entry)) (now (uses .entry))) (hist (now (counts .exit)) (now (sums .exit))) (now (counted .entry))) (now (out .exit)) ≡ trial.start (trial.state t (memory (rows (now (tags .entry)) (now (units .entry)) (now (uses .entry))) (hist (now (counts .entry)) (now (sums .entry))) (now (counted .entry))) (now (out .entry))) l ⌝ }
 {
     let was = t.head;
     let s = head::start(
         was,
-        hashes,
+        tags,
         units,
         uses,
         counts,
@@ -149,7 +149,7 @@ fn start(
 
 fn judge(
     t: Trial,
-    hashes: &mut [u64],
+    tags: &mut [u16],
     units: &mut [[u64; 7]],
     uses: &mut [[f64; 2 * DIMS]],
     counts: &mut [[u32; 768]; DIMS],
@@ -158,7 +158,7 @@ fn judge(
     l: JudgeLine,
     out: &mut [u8],
 ) -> Trial
-    ensures { λ r. ⌜ trial.state r (memory (rows (now (hashes .exit)) (now (units .exit)) (now (uses .exit))) (hist (now (counts .exit)) (now (sums .exit))) (now (counted .exit))) (now (out .exit)) ≡ trial.judge (trial.state t (memory (rows (now (hashes .entry)) (now (units .entry)) (now (uses .entry))) (hist (now (counts .entry)) (now (sums .entry))) (now (counted .entry))) (now (out .entry))) l ⌝ }
+    ensures { λ r. ⌜ trial.state r (memory (rows (now (tags .exit)) (now (units .exit)) (now (uses .exit))) (hist (now (counts .exit)) (now (sums .exit))) (now (counted .exit))) (now (out .exit)) ≡ trial.judge (trial.state t (memory (rows (now (tags .entry)) (now (units .entry)) (now (uses .entry))) (hist (now (counts .entry)) (now (sums .entry))) (now (counted .entry))) (now (out .entry))) l ⌝ }
 {
     if !t.is_started {
         return refused(t, out, NO_FORM);
@@ -167,7 +167,7 @@ fn judge(
     let unit = l.unit;
     let j = shed::judge(
         was,
-        hashes,
+        tags,
         units,
         uses,
         counts,
@@ -189,14 +189,14 @@ fn judge(
 
 fn cut(
     t: Trial,
-    hashes: &mut [u64],
+    tags: &mut [u16],
     units: &mut [[u64; 7]],
     uses: &mut [[f64; 2 * DIMS]],
     counted: &mut [[u64; 8]],
     l: CutLine,
     out: &mut [u8],
 ) -> Trial
-    ensures { λ r. ⌜ ((g : Hist) → trial.state r (memory (rows (now (hashes .exit)) (now (units .exit)) (now (uses .exit))) g (now (counted .exit))) (now (out .exit)) ≡ trial.cut (trial.state t (memory (rows (now (hashes .entry)) (now (units .entry)) (now (uses .entry))) g (now (counted .entry))) (now (out .entry))) l) ⌝ }
+    ensures { λ r. ⌜ ((g : Hist) → trial.state r (memory (rows (now (tags .exit)) (now (units .exit)) (now (uses .exit))) g (now (counted .exit))) (now (out .exit)) ≡ trial.cut (trial.state t (memory (rows (now (tags .entry)) (now (units .entry)) (now (uses .entry))) g (now (counted .entry))) (now (out .entry))) l) ⌝ }
 {
     if !t.is_started {
         return refused(t, out, NO_FORM);
@@ -206,7 +206,7 @@ fn cut(
     let cause = l.cause;
     let c = cut::cut(
         was,
-        hashes,
+        tags,
         units,
         uses,
         counted,
@@ -226,13 +226,13 @@ fn cut(
 
 fn report(
     mut t: Trial,
-    hashes: &[u64],
+    tags: &[u16],
     units: &[[u64; 7]],
     uses: &[[f64; 2 * DIMS]],
     counted: &[[u64; 8]],
     out: &mut [u8],
 ) -> Trial
-    ensures { λ r. ⌜ ((g : Hist) → trial.state r (memory (rows (now (hashes .entry)) (now (units .entry)) (now (uses .entry))) g (now (counted .entry))) (now (out .exit)) ≡ trial.report (trial.state t (memory (rows (now (hashes .entry)) (now (units .entry)) (now (uses .entry))) g (now (counted .entry))) (now (out .entry)))) ⌝ }
+    ensures { λ r. ⌜ ((g : Hist) → trial.state r (memory (rows (now (tags .entry)) (now (units .entry)) (now (uses .entry))) g (now (counted .entry))) (now (out .exit)) ≡ trial.report (trial.state t (memory (rows (now (tags .entry)) (now (units .entry)) (now (uses .entry))) g (now (counted .entry))) (now (out .entry)))) ⌝ }
 {
     if !t.is_started {
         return refused(t, out, NO_FORM);
@@ -240,11 +240,11 @@ fn report(
     let head = t.head;
     let at = t.at;
     let mut own = [0u8; REPORT];
-    let no = report::report_refusal(head, hashes, units, uses, counted, &own);
+    let no = report::report_refusal(head, tags, units, uses, counted, &own);
     if no != 0 {
         return refused(t, out, no);
     }
-    let front = report::report(head, hashes, units, uses, counted, &mut own);
+    let front = report::report(head, tags, units, uses, counted, &mut own);
     t.at = text::put(out, at, front);
     t
 }
@@ -252,7 +252,7 @@ fn report(
 // Answers one line: the text goes to out from the place t.at on.
 pub fn answer(
     t: Trial,
-    hashes: &mut [u64],
+    tags: &mut [u16],
     units: &mut [[u64; 7]],
     uses: &mut [[f64; 2 * DIMS]],
     counts: &mut [[u32; 768]; DIMS],
@@ -261,17 +261,17 @@ pub fn answer(
     line: &[u8],
     out: &mut [u8],
 ) -> Trial
-    ensures { λ r. ⌜ trial.state r (memory (rows (now (hashes .exit)) (now (units .exit)) (now (uses .exit))) (hist (now (counts .exit)) (now (sums .exit))) (now (counted .exit))) (now (out .exit)) ≡ trial.answer (trial.state t (memory (rows (now (hashes .entry)) (now (units .entry)) (now (uses .entry))) (hist (now (counts .entry)) (now (sums .entry))) (now (counted .entry))) (now (out .entry))) (now (line .entry)) ⌝ }
+    ensures { λ r. ⌜ trial.state r (memory (rows (now (tags .exit)) (now (units .exit)) (now (uses .exit))) (hist (now (counts .exit)) (now (sums .exit))) (now (counted .exit))) (now (out .exit)) ≡ trial.answer (trial.state t (memory (rows (now (tags .entry)) (now (units .entry)) (now (uses .entry))) (hist (now (counts .entry)) (now (sums .entry))) (now (counted .entry))) (now (out .entry))) (now (line .entry)) ⌝ }
 {
     if line.len() > LINE_MOST {
         return refused(t, out, NO_FORM);
     }
     let l = script::read_line(line);
     match l {
-        Line::Start(s) => start(t, hashes, units, uses, counts, sums, counted, s, out),
-        Line::Judge(j) => judge(t, hashes, units, uses, counts, sums, counted, j, out),
-        Line::Cut(c) => cut(t, hashes, units, uses, counted, c, out),
-        Line::Report => report(t, hashes, units, uses, counted, out),
+        Line::Start(s) => start(t, tags, units, uses, counts, sums, counted, s, out),
+        Line::Judge(j) => judge(t, tags, units, uses, counts, sums, counted, j, out),
+        Line::Cut(c) => cut(t, tags, units, uses, counted, c, out),
+        Line::Report => report(t, tags, units, uses, counted, out),
         Line::Nothing => refused(t, out, NO_FORM),
     }
 }

@@ -171,10 +171,10 @@ pub fn head(a: Shedder, b: Shedder) -> bool {
 // ---- the lent memory
 
 fn records(
-    hashes: &[u64; UNITS],
+    tags: &[u16; UNITS],
     units: &[[u64; 7]; UNITS],
     uses: &[[f64; 2 * DIMS]; UNITS],
-    was_hashes: &[u64; UNITS],
+    was_tags: &[u64; UNITS],
     was_units: &[[u64; 7]; UNITS],
     was_uses: &[[f64; 2 * DIMS]; UNITS],
 ) -> bool {
@@ -188,7 +188,7 @@ fn records(
         }
         i += 1;
     }
-    words(hashes, was_hashes)
+    words(tags, was_tags)
 }
 
 fn histogram(
@@ -222,20 +222,20 @@ fn sources(counted: &[[u64; 8]; COUNTED], was_counted: &[[u64; 8]; COUNTED]) -> 
 }
 
 pub fn memory(
-    hashes: &[u64; UNITS],
+    tags: &[u16; UNITS],
     units: &[[u64; 7]; UNITS],
     uses: &[[f64; 2 * DIMS]; UNITS],
     counts: &[[u32; 768]; DIMS],
     sums: &[[f64; 768]; DIMS],
     counted: &[[u64; 8]; COUNTED],
-    was_hashes: &[u64; UNITS],
+    was_tags: &[u64; UNITS],
     was_units: &[[u64; 7]; UNITS],
     was_uses: &[[f64; 2 * DIMS]; UNITS],
     was_counts: &[[u32; 768]; DIMS],
     was_sums: &[[f64; 768]; DIMS],
     was_counted: &[[u64; 8]; COUNTED],
 ) -> bool {
-    records(hashes, units, uses, was_hashes, was_units, was_uses)
+    records(tags, units, uses, was_tags, was_units, was_uses)
         && histogram(counts, sums, was_counts, was_sums)
         && sources(counted, was_counted)
 }

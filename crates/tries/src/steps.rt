@@ -38,7 +38,7 @@ const WIDTH: usize = 20;
 const ROWS: usize = 104;
 
 // A row has: the call, a letter, as edges/calls reads it; the unit, g for a group, else the one with no address; the part
-// of the head that is unfit, as unfit reads it; how many records are lent of hashes, units, uses and counted
+// of the head that is unfit, as unfit reads it; how many records are lent of tags, units, uses and counted
 // sources; and as letters of VALUES how many bytes of the report's buffer, the amounts (a start's rates, else a cost) and
 // the stamp. The last says what is written: f, r, i, a, v of a case that is run, t of a call that is refused, l of a
 // line that is refused.

@@ -89,7 +89,7 @@ module _ (h : Shedder) (m : Memory) (row : List ℕ) (u : unit.Unit) (cost : Lis
       ∙ admits (judging.judge h m u cost (getD row 6 0) .answer) cost (cost-parts row cost ec) ∙ ap (amounts calls.admitted (calls.state-of h m)) k
 
   -- on the watched unit's own record, unless the judgement was refused
-  pub judge-on : (watched : unit.Unit) (mine : Bool) (xs ys : List ℕ) (x : ℕ) → mine ≡ on-watched (m .rows .hashes) (m .rows .units) (h .tracked) (h .«unit_room») watched u → xs ≡ amounts calls.admitted (calls.state-of h m) (judge-in row)
+  pub judge-on : (watched : unit.Unit) (mine : Bool) (xs ys : List ℕ) (x : ℕ) → mine ≡ on-watched (m .rows .tags) (m .rows .units) (h .tracked) (h .«unit_room») watched u → xs ≡ amounts calls.admitted (calls.state-of h m) (judge-in row)
       → ys ≡ counted-if mine xs → x ≡ judge-number (j .answer) → x ≡ 0 → ys ≡ amounts (calls.admitted-on (calls.own watched)) (calls.state-of h m) (judge-in row)
   unfolding amounts
   judge-on watched mine xs ys x em ex ey en z =

@@ -53,7 +53,7 @@ module _ (s : State) (row page : List ℕ) where
   report-is x n e en ex = rw e (ex ∙ en)
 
   pub report-page : (w : Written) (out : List ℕ) → eqb (getD row 0 0) 2 ≡ true
-      → reports.ends w out ≡ reports.report (s .head) (length (s .memory .rows .hashes)) (length (s .memory .rows .units)) (length (s .memory .rows .uses)) (s .memory .counted) page → out ≡ read-page s (reading-in row page) page
+      → reports.ends w out ≡ reports.report (s .head) (length (s .memory .rows .tags)) (length (s .memory .rows .units)) (length (s .memory .rows .uses)) (s .memory .counted) page → out ≡ read-page s (reading-in row page) page
   unfolding reading-in
   report-page w out e ew = rw e (ap (λ (y : reports.Ends). y .out) ew)
 

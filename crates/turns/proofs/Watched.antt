@@ -39,22 +39,22 @@ pub same-told : (w u : unit.Unit) (r : Bool) → Tells r (w ≡ u) → r ≡ cal
 same-told w u r t = told w u r _ refl t
 
 -- ---- the record that is used
-own-by : (m m' : Rows) (i tracked room hashes units : ℕ) (over found fits : Bool) → ltb i tracked ≡ found → ltb tracked room ≡ fits → hashes ≡ room → units ≡ room → tracked ≤ room
-    → cond over false (cond fits true (cond (ltb hashes tracked) false (cond (ltb units tracked) false found)))
+own-by : (m m' : Rows) (i tracked room tags units : ℕ) (over found fits : Bool) → ltb i tracked ≡ found → ltb tracked room ≡ fits → tags ≡ room → units ≡ room → tracked ≤ room
+    → cond over false (cond fits true (cond (ltb tags tracked) false (cond (ltb units tracked) false found)))
     ≡ ltb (choose over (entered (place room tracked) m) (choose found (entered (place i tracked) m) (choose fits (entered (place tracked (tracked + 1)) m') (entered (place room tracked) m))) .place .at) room
-own-by m m' i tracked room hashes units true found fits ef et eh eu l = sym (le-ltb room room (omega arith))
-own-by m m' i tracked room hashes units false true true ef et eh eu l = sym (lt-ltb i room (omega (arith, l, ltb-true i tracked ef)))
-own-by m m' i tracked room hashes units false true false ef et eh eu l =
-    rw (le-ltb hashes tracked (omega (arith, l, eh)), le-ltb units tracked (omega (arith, l, eu))) (sym (lt-ltb i room (omega (arith, l, ltb-true i tracked ef))))
-own-by m m' i tracked room hashes units false false true ef et eh eu l = sym (lt-ltb tracked room (ltb-true tracked room et))
-own-by m m' i tracked room hashes units false false false ef et eh eu l =
-    rw (le-ltb hashes tracked (omega (arith, l, eh)), le-ltb units tracked (omega (arith, l, eu))) (sym (le-ltb room room (omega arith)))
+own-by m m' i tracked room tags units true found fits ef et eh eu l = sym (le-ltb room room (omega arith))
+own-by m m' i tracked room tags units false true true ef et eh eu l = sym (lt-ltb i room (omega (arith, l, ltb-true i tracked ef)))
+own-by m m' i tracked room tags units false true false ef et eh eu l =
+    rw (le-ltb tags tracked (omega (arith, l, eh)), le-ltb units tracked (omega (arith, l, eu))) (sym (lt-ltb i room (omega (arith, l, ltb-true i tracked ef))))
+own-by m m' i tracked room tags units false false true ef et eh eu l = sym (lt-ltb tracked room (ltb-true tracked room et))
+own-by m m' i tracked room tags units false false false ef et eh eu l =
+    rw (le-ltb tags tracked (omega (arith, l, eh)), le-ltb units tracked (omega (arith, l, eu))) (sym (le-ltb room room (omega arith)))
 
-own-is : (m : Rows) (tracked room : ℕ) (u : unit.Unit) (now : ℕ) → length (m .hashes) ≡ room → length (m .units) ≡ room → tracked ≤ room
-    → own-used (m .hashes) (m .units) tracked room u ≡ ltb (entry m tracked room u now .place .at) room
+own-is : (m : Rows) (tracked room : ℕ) (u : unit.Unit) (now : ℕ) → length (m .tags) ≡ room → length (m .units) ≡ room → tracked ≤ room
+    → own-used (m .tags) (m .units) tracked room u ≡ ltb (entry m tracked room u now .place .at) room
 unfolding own-used entry
 own-is m tracked room u now eh eu l =
-    own-by m (store.added m tracked (sender.name-of u) (flow.added now)) (store.find (m .hashes) (m .units) (sender.name-of u) tracked) tracked room (length (m .hashes)) (length (m .units)) (sender.is-overflow u) _ _ refl refl eh eu l
+    own-by m (store.added m tracked (sender.name-of u) (flow.added now)) (store.find (m .tags) (m .units) (sender.name-of u) tracked) tracked room (length (m .tags)) (length (m .units)) (sender.is-overflow u) _ _ refl refl eh eu l
 
 keyed : (b : Bool) (w u : unit.Unit) → cond b (calls.same-name (sender.name-of w) (sender.name-of u)) false ≡ calls.same-key (calls.own w) (calls.key-at b u)
 keyed true w u = refl
@@ -67,18 +67,18 @@ asked-by h m n true x e f = eqb-true n 0 e
 asked-by h m n false x e f = f
 
 asked : (h : Shedder) (m : Memory) (u : unit.Unit) (cost : List ℕ) (t : ℕ) → judge-number (judging.judge h m u cost t .answer) ≡ 0
-    → judge-asked h (length (m .rows .hashes)) (length (m .rows .units)) (length (m .rows .uses)) (length (m .counted)) cost t ≡ 0
+    → judge-asked h (length (m .rows .tags)) (length (m .rows .units)) (length (m .rows .uses)) (length (m .counted)) cost t ≡ 0
 unfolding judging.judge
 asked h m u cost t f =
-    asked-by h m (judge-asked h (length (m .rows .hashes)) (length (m .rows .units)) (length (m .rows .uses)) (length (m .counted)) cost t) _
+    asked-by h m (judge-asked h (length (m .rows .tags)) (length (m .rows .units)) (length (m .rows .uses)) (length (m .counted)) cost t) _
     (choose (is-unbounded (h .flow .rate)) (judge-ends answer.Admitted h m)
-    (choose (is-misplaced (m .rows .hashes) (m .rows .units) (h .tracked) (sender.name-of u)) (judge-ends (answer.Refused 9) h m) (bounded h m u cost t)))
+    (choose (is-misplaced (m .rows .tags) (m .rows .units) (h .tracked) (sender.name-of u)) (judge-ends (answer.Refused 9) h m) (bounded h m u cost t)))
     refl f
 
 pub watched-is : (h : Shedder) (m : Memory) (u : unit.Unit) (cost : List ℕ) (t : ℕ) (w : unit.Unit) → judge-number (judging.judge h m u cost t .answer) ≡ 0
-    → on-watched (m .rows .hashes) (m .rows .units) (h .tracked) (h .«unit_room») w u ≡ calls.same-key (calls.own w) (calls.key (calls.state-of h m) u (calls.now (calls.state-of h m) t))
+    → on-watched (m .rows .tags) (m .rows .units) (h .tracked) (h .«unit_room») w u ≡ calls.same-key (calls.own w) (calls.key (calls.state-of h m) u (calls.now (calls.state-of h m) t))
 unfolding on-watched
 watched-is h m u cost t w f =
-    let r = asked-ready h (length (m .rows .hashes)) (length (m .rows .units)) (length (m .rows .uses)) (length (m .counted)) cost t (asked h m u cost t f) in
-    ap (λ (b : Bool). cond b (calls.same-name (sender.name-of w) (sender.name-of u)) false) (own-is (m .rows) (h .tracked) (h .«unit_room») u (calls.now (calls.state-of h m) t) (r .hashes-room) (r .units-room) (r .tracked-held))
+    let r = asked-ready h (length (m .rows .tags)) (length (m .rows .units)) (length (m .rows .uses)) (length (m .counted)) cost t (asked h m u cost t f) in
+    ap (λ (b : Bool). cond b (calls.same-name (sender.name-of w) (sender.name-of u)) false) (own-is (m .rows) (h .tracked) (h .«unit_room») u (calls.now (calls.state-of h m) t) (r .tags-room) (r .units-room) (r .tracked-held))
     ∙ keyed (ltb (entry (m .rows) (h .tracked) (h .«unit_room») u (calls.now (calls.state-of h m) t) .place .at) (h .«unit_room»)) w u

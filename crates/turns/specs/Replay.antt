@@ -49,7 +49,7 @@ call-in row page = choose (eqb (getD row 0 0) 0) (judge-in row) (choose (eqb (ge
 -- ---- the buffer
 -- a report leaves what its definition says, any other call leaves the buffer as it was
 abbrev pub read-page : State → Reading → List ℕ → List ℕ
-read-page s (Report out) page = reports.report (s .head) (length (s .memory .rows .hashes)) (length (s .memory .rows .units)) (length (s .memory .rows .uses)) (s .memory .counted) out .out
+read-page s (Report out) page = reports.report (s .head) (length (s .memory .rows .tags)) (length (s .memory .rows .units)) (length (s .memory .rows .uses)) (s .memory .counted) out .out
 read-page s (ReportBeside out) page = page
 read-page s (Count c) page = page
 read-page s Visited page = page
@@ -114,15 +114,15 @@ totals w first h = upto (λ (d : ℕ). whole (w d) first h % 2 ^ 64) dims (repli
 -- ---- the watched unit
 -- whether a judgement uses the unit's own record: overflow has none; it is found among those tracked, or there is room to add it. Where a list is shorter than `tracked` the judgement is refused
 unfoldable pub own-used : List ℕ → List (List ℕ) → ℕ → ℕ → unit.Unit → Bool
-own-used hashes units tracked room u =
+own-used tags units tracked room u =
     cond (sender.is-overflow u) false
     (cond (ltb tracked room) true
-    (cond (ltb (length hashes) tracked) false
-    (cond (ltb (length units) tracked) false (ltb (store.find hashes units (sender.name-of u) tracked) tracked))))
+    (cond (ltb (length tags) tracked) false
+    (cond (ltb (length units) tracked) false (ltb (store.find tags units (sender.name-of u) tracked) tracked))))
 
 -- and whether that is the watched unit's
 unfoldable pub on-watched : List ℕ → List (List ℕ) → ℕ → ℕ → unit.Unit → unit.Unit → Bool
-on-watched hashes units tracked room watched u = cond (own-used hashes units tracked room u) (calls.same-name (sender.name-of watched) (sender.name-of u)) false
+on-watched tags units tracked room watched u = cond (own-used tags units tracked room u) (calls.same-name (sender.name-of watched) (sender.name-of u)) false
 
 -- ---- one row
 -- what the program has after a row whose call is c: head and memory t, the number of its refusal, and what it amounts to; of a refused call what it amounts to on the watched unit's record is left open, since nothing counts it

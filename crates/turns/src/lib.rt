@@ -56,7 +56,7 @@ pub struct Turned {
 
 fn judge_row(
     head: Shedder,
-    hashes: &mut [u64],
+    tags: &mut [u16],
     units: &mut [[u64; 7]],
     uses: &mut [[f64; 2 * DIMS]],
     counts: &mut [[u32; 768]; DIMS],
@@ -65,15 +65,15 @@ fn judge_row(
     watched: Unit,
     row: [u64; 7 + DIMS],
 ) -> Turned
-    ensures { λ r. ⌜ replay.Turns watched (calls.state-of head (judging.memory (store.rows (now (hashes .entry)) (now (units .entry)) (now (uses .entry))) (wants.hist (now (counts .entry)) (now (sums .entry))) (now (counted .entry)))) (replay.judge-in row) r (calls.state-of (r .head) (judging.memory (store.rows (now (hashes .exit)) (now (units .exit)) (now (uses .exit))) (wants.hist (now (counts .exit)) (now (sums .exit))) (now (counted .exit)))) ⌝ }
+    ensures { λ r. ⌜ replay.Turns watched (calls.state-of head (judging.memory (store.rows (now (tags .entry)) (now (units .entry)) (now (uses .entry))) (wants.hist (now (counts .entry)) (now (sums .entry))) (now (counted .entry)))) (replay.judge-in row) r (calls.state-of (r .head) (judging.memory (store.rows (now (tags .exit)) (now (units .exit)) (now (uses .exit))) (wants.hist (now (counts .exit)) (now (sums .exit))) (now (counted .exit)))) ⌝ }
 {
     let unit = sender::unit_of(words_in(row));
     let cost = cost_in(row);
     let stamp = row[6];
-    let mine = on_watched(head, hashes, units, watched, unit);
+    let mine = on_watched(head, tags, units, watched, unit);
     let judged = shed::judge(
         head,
-        hashes,
+        tags,
         units,
         uses,
         counts,
@@ -101,18 +101,18 @@ fn judge_row(
 
 fn cut_row(
     head: Shedder,
-    hashes: &mut [u64],
+    tags: &mut [u16],
     units: &mut [[u64; 7]],
     uses: &mut [[f64; 2 * DIMS]],
     counted: &mut [[u64; 8]],
     row: [u64; 7 + DIMS],
 ) -> Turned
-    ensures { λ r. ⌜ ((watched : unit.Unit) (g : Hist) → replay.Turns watched (calls.state-of head (judging.memory (store.rows (now (hashes .entry)) (now (units .entry)) (now (uses .entry))) g (now (counted .entry)))) (replay.cut-in row) r (calls.state-of (r .head) (judging.memory (store.rows (now (hashes .exit)) (now (units .exit)) (now (uses .exit))) g (now (counted .exit))))) ⌝ }
+    ensures { λ r. ⌜ ((watched : unit.Unit) (g : Hist) → replay.Turns watched (calls.state-of head (judging.memory (store.rows (now (tags .entry)) (now (units .entry)) (now (uses .entry))) g (now (counted .entry)))) (replay.cut-in row) r (calls.state-of (r .head) (judging.memory (store.rows (now (tags .exit)) (now (units .exit)) (now (uses .exit))) g (now (counted .exit))))) ⌝ }
 {
     let unit = sender::unit_of(words_in(row));
     let cost = cost_in(row);
     let cause = cause_of(row[6]);
-    let cut = cut::cut(head, hashes, units, uses, counted, unit, cause, cost);
+    let cut = cut::cut(head, tags, units, uses, counted, unit, cause, cost);
     let answer = cut.answer;
     let left = cut.head;
     let number = cut_number(answer);
@@ -146,7 +146,7 @@ fn turned_by_reading(head: Shedder, number: u64) -> Turned
 // One row.
 pub fn turn(
     head: Shedder,
-    hashes: &mut [u64],
+    tags: &mut [u16],
     units: &mut [[u64; 7]],
     uses: &mut [[f64; 2 * DIMS]],
     counts: &mut [[u32; 768]; DIMS],
@@ -156,14 +156,14 @@ pub fn turn(
     row: [u64; 7 + DIMS],
     out: &mut [u8],
 ) -> Turned
-    ensures { λ r. ⌜ replay.Turns watched (calls.state-of head (judging.memory (store.rows (now (hashes .entry)) (now (units .entry)) (now (uses .entry))) (wants.hist (now (counts .entry)) (now (sums .entry))) (now (counted .entry)))) (replay.call-in row (now (out .entry))) r (calls.state-of (r .head) (judging.memory (store.rows (now (hashes .exit)) (now (units .exit)) (now (uses .exit))) (wants.hist (now (counts .exit)) (now (sums .exit))) (now (counted .exit)))) ⌝ }
-    ensures { λ r. ⌜ now (out .exit) ≡ replay.page-after (calls.state-of head (judging.memory (store.rows (now (hashes .entry)) (now (units .entry)) (now (uses .entry))) (wants.hist (now (counts .entry)) (now (sums .entry))) (now (counted .entry)))) (replay.call-in row (now (out .entry))) (now (out .entry)) ⌝ }
+    ensures { λ r. ⌜ replay.Turns watched (calls.state-of head (judging.memory (store.rows (now (tags .entry)) (now (units .entry)) (now (uses .entry))) (wants.hist (now (counts .entry)) (now (sums .entry))) (now (counted .entry)))) (replay.call-in row (now (out .entry))) r (calls.state-of (r .head) (judging.memory (store.rows (now (tags .exit)) (now (units .exit)) (now (uses .exit))) (wants.hist (now (counts .exit)) (now (sums .exit))) (now (counted .exit)))) ⌝ }
+    ensures { λ r. ⌜ now (out .exit) ≡ replay.page-after (calls.state-of head (judging.memory (store.rows (now (tags .entry)) (now (units .entry)) (now (uses .entry))) (wants.hist (now (counts .entry)) (now (sums .entry))) (now (counted .entry)))) (replay.call-in row (now (out .entry))) (now (out .entry)) ⌝ }
 {
     let which = row[0];
     if which == 0 {
         return judge_row(
             head,
-            hashes,
+            tags,
             units,
             uses,
             counts,
@@ -174,8 +174,8 @@ pub fn turn(
         );
     }
     if which == 1 {
-        return cut_row(head, hashes, units, uses, counted, row);
+        return cut_row(head, tags, units, uses, counted, row);
     }
-    let number = read_row(head, hashes, units, uses, counted, row, out);
+    let number = read_row(head, tags, units, uses, counted, row, out);
     turned_by_reading(head, number)
 }

@@ -5,8 +5,8 @@ use head::Shedder;
 use sender::Unit;
 
 // Whether a judgement of the unit uses the unit's own record: found, or added. False where the slices are shorter than the records in use: such a judgement is refused.
-fn uses_own(head: Shedder, hashes: &[u64], units: &[[u64; 7]], unit: Unit) -> bool
-    ensures { λ r. ⌜ r ≡ replay.own-used (now (hashes .entry)) (now (units .entry)) (head .tracked) (head .«unit_room») unit ⌝ }
+fn uses_own(head: Shedder, tags: &[u16], units: &[[u64; 7]], unit: Unit) -> bool
+    ensures { λ r. ⌜ r ≡ replay.own-used (now (tags .entry)) (now (units .entry)) (head .tracked) (head .«unit_room») unit ⌝ }
 {
     if sender::is_overflow(unit) {
         return false;
@@ -14,28 +14,28 @@ fn uses_own(head: Shedder, hashes: &[u64], units: &[[u64; 7]], unit: Unit) -> bo
     if head.tracked < head.unit_room {
         return true;
     }
-    if hashes.len() < head.tracked {
+    if tags.len() < head.tracked {
         return false;
     }
     if units.len() < head.tracked {
         return false;
     }
     let name = sender::name_of(unit);
-    let i = search::find(hashes, units, head.tracked, name);
+    let i = search::find(tags, units, head.tracked, name);
     i < head.tracked
 }
 
 // Whether a judgement of the unit uses the watched unit's own record.
 pub fn on_watched(
     head: Shedder,
-    hashes: &[u64],
+    tags: &[u16],
     units: &[[u64; 7]],
     watched: Unit,
     unit: Unit,
 ) -> bool
-    ensures { λ r. ⌜ r ≡ replay.on-watched (now (hashes .entry)) (now (units .entry)) (head .tracked) (head .«unit_room») watched unit ⌝ }
+    ensures { λ r. ⌜ r ≡ replay.on-watched (now (tags .entry)) (now (units .entry)) (head .tracked) (head .«unit_room») watched unit ⌝ }
 {
-    if uses_own(head, hashes, units, unit) {
+    if uses_own(head, tags, units, unit) {
         return sender::same_unit(watched, unit);
     }
     false

@@ -43,23 +43,23 @@ fn head_read(head: Shedder, which: u64, n: u64) -> u64
 // A report into out, the call beside it, or a reading of the head.
 pub fn read_row(
     head: Shedder,
-    hashes: &[u64],
+    tags: &[u16],
     units: &[[u64; 7]],
     uses: &[[f64; 2 * DIMS]],
     counted: &[[u64; 8]],
     row: [u64; 7 + DIMS],
     out: &mut [u8],
 ) -> u64
-    ensures { λ r. ⌜ ((g : Hist) → r ≡ calls.read-number (calls.state-of head (judging.memory (store.rows (now (hashes .entry)) (now (units .entry)) (now (uses .entry))) g (now (counted .entry)))) (replay.reading-in row (now (out .entry)))) ⌝ }
-    ensures { λ r. ⌜ ((g : Hist) → now (out .exit) ≡ replay.read-page (calls.state-of head (judging.memory (store.rows (now (hashes .entry)) (now (units .entry)) (now (uses .entry))) g (now (counted .entry)))) (replay.reading-in row (now (out .entry))) (now (out .entry))) ⌝ }
+    ensures { λ r. ⌜ ((g : Hist) → r ≡ calls.read-number (calls.state-of head (judging.memory (store.rows (now (tags .entry)) (now (units .entry)) (now (uses .entry))) g (now (counted .entry)))) (replay.reading-in row (now (out .entry)))) ⌝ }
+    ensures { λ r. ⌜ ((g : Hist) → now (out .exit) ≡ replay.read-page (calls.state-of head (judging.memory (store.rows (now (tags .entry)) (now (units .entry)) (now (uses .entry))) g (now (counted .entry)))) (replay.reading-in row (now (out .entry))) (now (out .entry))) ⌝ }
 {
     let which = row[0];
     if which == 2 {
-        let written = report::write_report(head, hashes, units, uses, counted, out);
+        let written = report::write_report(head, tags, units, uses, counted, out);
         return report_number(written);
     }
     if which == 3 {
-        return report::report_refusal(head, hashes, units, uses, counted, out);
+        return report::report_refusal(head, tags, units, uses, counted, out);
     }
     head_read(head, which, row[6])
 }

@@ -42,7 +42,7 @@ entry-held : (m : Rows) (tracked room : ℕ) (u : Unit) (now : ℕ) → tracked 
 unfolding entry
 entry-held m tracked room u now p =
     choose-entered (is-overflow u) _ _ room (λ e. p)
-    (choose-entered (ltb (find (m .hashes) (m .units) (name-of u) tracked) tracked) _ _ room (λ e. p)
+    (choose-entered (ltb (find (m .tags) (m .units) (name-of u) tracked) tracked) _ _ room (λ e. p)
     (choose-entered (ltb tracked room) _ _ room (λ e. omega (arith, ltb-true tracked room e)) p))
 
 judged-whole : (h : Shedder) (m : Rows) (u : Unit) (cost : List Float) (now : ℕ) → Whole h → now < 9007199254740992 → Whole (judged h m u cost now .head)
@@ -160,13 +160,13 @@ choose-judged false x y p q = q
 judge-keeps : (h : Shedder) (m : Memory) (u : Unit) (cost : List ℕ) (stamp : ℕ) → head-whole h ≡ true → head-whole (judge h m u cost stamp .head) ≡ true
 unfolding judge
 judge-keeps h m u cost stamp w =
-    let a = judge-asked h (length (m .rows .hashes)) (length (m .rows .units)) (length (m .rows .uses)) (length (m .counted)) cost stamp in
+    let a = judge-asked h (length (m .rows .tags)) (length (m .rows .units)) (length (m .rows .uses)) (length (m .counted)) cost stamp in
     choose-judged (eqb a 0) _ _ (λ e.
-    let r = asked-ready h (length (m .rows .hashes)) (length (m .rows .units)) (length (m .rows .uses)) (length (m .counted)) cost stamp (eqb-true a 0 e) in
+    let r = asked-ready h (length (m .rows .tags)) (length (m .rows .units)) (length (m .rows .uses)) (length (m .counted)) cost stamp (eqb-true a 0 e) in
     choose-judged (is-unbounded (h .flow .rate)) _ _ (λ y. w)
-    (choose-judged (is-misplaced (m .rows .hashes) (m .rows .units) (h .tracked) (name-of u)) _ _ (λ y. w)
+    (choose-judged (is-misplaced (m .rows .tags) (m .rows .units) (h .tracked) (name-of u)) _ _ (λ y. w)
     (whole-is (bounded h m u cost stamp .head) (bounded-whole h m u cost stamp (whole-of h w) (r .stamp-held)
-    (memory-counted h (length (m .rows .hashes)) (length (m .rows .units)) (length (m .rows .uses)) (length (m .counted)) (judge-memory h _ _ _ _ cost stamp (eqb-true a 0 e))))))) w
+    (memory-counted h (length (m .rows .tags)) (length (m .rows .units)) (length (m .rows .uses)) (length (m .counted)) (judge-memory h _ _ _ _ cost stamp (eqb-true a 0 e))))))) w
 
 -- ---- a cut
 after-whole : (s : KeptBy) (k : List (List ℕ)) (u : Unit) (c : Cause) (cost : List ℕ) → Whole (s .head) → length k ≡ s .head .«counted_room» → head-whole (cut-after k u c cost s .head) ≡ true
@@ -184,11 +184,11 @@ choose-cut false x y p q = q
 cut-keeps : (h : Shedder) (m : Rows) (k : List (List ℕ)) (u : Unit) (c : Cause) (cost : List ℕ) → head-whole h ≡ true → head-whole (cut h m k u c cost .head) ≡ true
 unfolding cut
 cut-keeps h m k u c cost w =
-    let a = cut-asked h (length (m .hashes)) (length (m .units)) (length (m .uses)) (length k) cost in
+    let a = cut-asked h (length (m .tags)) (length (m .units)) (length (m .uses)) (length k) cost in
     choose-cut (eqb a 0) _ _ (λ e.
-    let room : length k ≡ h .«counted_room» = memory-counted h (length (m .hashes)) (length (m .units)) (length (m .uses)) (length k) (cut-memory h _ _ _ _ cost (eqb-true a 0 e)) in
+    let room : length k ≡ h .«counted_room» = memory-counted h (length (m .tags)) (length (m .units)) (length (m .uses)) (length k) (cut-memory h _ _ _ _ cost (eqb-true a 0 e)) in
     choose-cut (hands-back (h .flow .rate) c) _ _ (λ y.
-    choose-cut (is-misplaced (m .hashes) (m .units) (h .tracked) (name-of u)) _ _ (λ z. w)
+    choose-cut (is-misplaced (m .tags) (m .units) (h .tracked) (name-of u)) _ _ (λ z. w)
     (after-whole (handed-back (kept-by h m) u (numbers cost)) k u c cost (handed-whole h m u (numbers cost) (whole-of h w)) (room ∙ sym (handed-room h m u (numbers cost)))))
     (after-whole (kept-by h m) k u c cost (whole-of h w) room)) w
 

@@ -40,27 +40,27 @@ memory-counted h i u s k e =
     eqb-true k (h .«counted_room») (d .1)
 
 -- ---- a start
-opening-whole : (rate ceiling : List ℕ) (hashes units uses counted : ℕ) → start-asked rate hashes units uses counted ≡ 0 → head-whole (opening rate ceiling hashes counted) ≡ true
+opening-whole : (rate ceiling : List ℕ) (tags units uses counted : ℕ) → start-asked rate tags units uses counted ≡ 0 → head-whole (opening rate ceiling tags counted) ≡ true
 unfolding start-asked sizes-whole opening head-whole stamps-whole is-stamp tables-whole
-opening-whole rate ceiling hashes units uses counted e =
+opening-whole rate ceiling tags units uses counted e =
     let a = zero-yes (rates-whole rate) _ 0 e in
-    let b = zero-yes (sizes-whole hashes units uses counted) 0 1 (a .1) in
-    let d = yes-yes (eqb units hashes) _ (b .0) in
-    let f = yes-yes (eqb uses hashes) _ (d .1) in
-    both (rates-whole rate && true) (true && rooms-whole hashes counted 0 0) (both (rates-whole rate) true (a .0) refl) (f .1)
+    let b = zero-yes (sizes-whole tags units uses counted) 0 1 (a .1) in
+    let d = yes-yes (eqb units tags) _ (b .0) in
+    let f = yes-yes (eqb uses tags) _ (d .1) in
+    both (rates-whole rate && true) (true && rooms-whole tags counted 0 0) (both (rates-whole rate) true (a .0) refl) (f .1)
 
 start-case : (b : Bool) (x y : Beginning) → (b ≡ true → head-whole (x .head) ≡ true) → head-whole (y .head) ≡ true → head-whole (choose b x y .head) ≡ true
 start-case true x y p q = p refl
 start-case false x y p q = q
 
-pub start-whole : (h : Shedder) (hashes units uses counted : ℕ) (g : Hist) (rate ceiling : List ℕ) → start-asked rate hashes units uses counted ≡ 0 → head-whole (start h hashes units uses counted g rate ceiling .head) ≡ true
+pub start-whole : (h : Shedder) (tags units uses counted : ℕ) (g : Hist) (rate ceiling : List ℕ) → start-asked rate tags units uses counted ≡ 0 → head-whole (start h tags units uses counted g rate ceiling .head) ≡ true
 unfolding start
-start-whole h hashes units uses counted g rate ceiling e = rw (eq-eqb (start-asked rate hashes units uses counted) 0 e) (opening-whole rate ceiling hashes units uses counted e)
+start-whole h tags units uses counted g rate ceiling e = rw (eq-eqb (start-asked rate tags units uses counted) 0 e) (opening-whole rate ceiling tags units uses counted e)
 
-pub start-keeps : (h : Shedder) (hashes units uses counted : ℕ) (g : Hist) (rate ceiling : List ℕ) → head-whole h ≡ true → head-whole (start h hashes units uses counted g rate ceiling .head) ≡ true
+pub start-keeps : (h : Shedder) (tags units uses counted : ℕ) (g : Hist) (rate ceiling : List ℕ) → head-whole h ≡ true → head-whole (start h tags units uses counted g rate ceiling .head) ≡ true
 unfolding start
-start-keeps h hashes units uses counted g rate ceiling w =
-    start-case (eqb (start-asked rate hashes units uses counted) 0) _ _ (λ e. opening-whole rate ceiling hashes units uses counted (eqb-true (start-asked rate hashes units uses counted) 0 e)) w
+start-keeps h tags units uses counted g rate ceiling w =
+    start-case (eqb (start-asked rate tags units uses counted) 0) _ _ (λ e. opening-whole rate ceiling tags units uses counted (eqb-true (start-asked rate tags units uses counted) 0 e)) w
 
 -- ---- of n records n at most are kept
 either-held : (b : Bool) (x y : Kept) (n : ℕ) → x .count ≤ n → y .count ≤ n → either b x y .count ≤ n
@@ -70,7 +70,7 @@ either-held false x y n p q = q
 retain-one-held : (k : Kept) (table now i n : ℕ) → k .count ≤ n → retain-one k table now i .count ≤ suc n
 unfolding retain-one
 retain-one-held k table now i n p =
-    either-held (is-stale (k .rows .hashes) (k .rows .units) table now i) (kept (k .count) (freed (k .rows) i)) _ (suc n) (omega (arith, p))
+    either-held (is-stale (k .rows .tags) (k .rows .units) table now i) (kept (k .count) (freed (k .rows) i)) _ (suc n) (omega (arith, p))
     (either-held (ltb (k .count) i) (kept (k .count + 1) (moved (k .rows) i (k .count))) (kept (k .count + 1) (k .rows)) (suc n) (omega (arith, p)) (omega (arith, p)))
 
 pub retained-held : (m : Rows) (table now n : ℕ) → retained m table now n .count ≤ n

@@ -14,7 +14,7 @@ use Rattle.shed.specs.Judging.{Memory, judge}
 use Rattle.cut.specs.Cutting.{cut}
 
 pub record Stays : Type 0 where
-  pub start-whole : (h : Shedder) (hashes units uses counted : ℕ) (g : Hist) (rate ceiling : List ℕ) → start-asked rate hashes units uses counted ≡ 0 → head-whole (start h hashes units uses counted g rate ceiling .head) ≡ true
-  pub start-keeps : (h : Shedder) (hashes units uses counted : ℕ) (g : Hist) (rate ceiling : List ℕ) → head-whole h ≡ true → head-whole (start h hashes units uses counted g rate ceiling .head) ≡ true
+  pub start-whole : (h : Shedder) (tags units uses counted : ℕ) (g : Hist) (rate ceiling : List ℕ) → start-asked rate tags units uses counted ≡ 0 → head-whole (start h tags units uses counted g rate ceiling .head) ≡ true
+  pub start-keeps : (h : Shedder) (tags units uses counted : ℕ) (g : Hist) (rate ceiling : List ℕ) → head-whole h ≡ true → head-whole (start h tags units uses counted g rate ceiling .head) ≡ true
   pub judge-keeps : (h : Shedder) (m : Memory) (u : unit.Unit) (cost : List ℕ) (stamp : ℕ) → head-whole h ≡ true → head-whole (judge h m u cost stamp .head) ≡ true
   pub cut-keeps : (h : Shedder) (m : Rows) (k : List (List ℕ)) (u : unit.Unit) (c : Cause) (cost : List ℕ) → head-whole h ≡ true → head-whole (cut h m k u c cost .head) ≡ true

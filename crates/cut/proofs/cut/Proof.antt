@@ -26,10 +26,10 @@ name-of-requires : tie.Need-name-of-requires
 name-of-requires c κs = search needs
 
 find-requires : tie.Need-find-requires
-find-requires c κs = let w = cut-ready (c .before .before .before .before .before .before .before .before .before .before .args .head) _ _ _ _ (c .before .before .before .before .before .before .before .before .before .before .args .cost) (sym (c .before .before .before .before .before .before .before .before .cut-asked .ensures) ∙ c .before .before .before .before .before .before .before .if1 .left) in (le-to (w .tracked-held) (w .hashes-room), le-to (w .tracked-held) (w .units-room))
+find-requires c κs = let w = cut-ready (c .before .before .before .before .before .before .before .before .before .before .args .head) _ _ _ _ (c .before .before .before .before .before .before .before .before .before .before .args .cost) (sym (c .before .before .before .before .before .before .before .before .cut-asked .ensures) ∙ c .before .before .before .before .before .before .before .if1 .left) in (le-to (w .tracked-held) (w .tags-room), le-to (w .tracked-held) (w .units-room))
 
 is-misplaced-requires : tie.Need-is-misplaced-requires
-is-misplaced-requires c κs = let w = cut-ready (c .before .before .before .before .before .before .before .before .before .before .before .before .before .args .head) _ _ _ _ (c .before .before .before .before .before .before .before .before .before .before .before .before .before .args .cost) (sym (c .before .before .before .before .before .before .before .before .before .before .before .cut-asked .ensures) ∙ c .before .before .before .before .before .before .before .before .before .before .if1 .left) in (le-to (w .tracked-held) (w .hashes-room), (le-to (w .tracked-held) (w .units-room), c .before .before .find .ensures))
+is-misplaced-requires c κs = let w = cut-ready (c .before .before .before .before .before .before .before .before .before .before .before .before .before .args .head) _ _ _ _ (c .before .before .before .before .before .before .before .before .before .before .before .before .before .args .cost) (sym (c .before .before .before .before .before .before .before .before .before .before .before .cut-asked .ensures) ∙ c .before .before .before .before .before .before .before .before .before .before .if1 .left) in (le-to (w .tracked-held) (w .tags-room), (le-to (w .tracked-held) (w .units-room), c .before .before .find .ensures))
 
 same-length : tie.Need-same-length
 same-length c = search needs
@@ -45,7 +45,7 @@ numbers-requires : tie.Need-numbers-requires
 numbers-requires c κs = search needs
 
 handed-back-requires : tie.Need-handed-back-requires
-handed-back-requires c κs = let w = cut-ready (c .before .before .before .before .before .before .before .before .before .before .before .before .before .before .before .before .before .before .before .args .head) _ _ _ _ (c .before .before .before .before .before .before .before .before .before .before .before .before .before .before .before .before .before .before .before .args .cost) (sym (c .before .before .before .before .before .before .before .before .before .before .before .before .before .before .before .before .before .cut-asked .ensures) ∙ c .before .before .before .before .before .before .before .before .before .before .before .before .before .before .before .before .if1 .left) in (w .hashes-room, (w .units-room, (w .uses-room, (w .tracked-held, (c .before .before .before .before .before .before .before .before .before .before .before .name-of .ensures, c .before .before .before .before .before .before .before .before .find .ensures)))))
+handed-back-requires c κs = let w = cut-ready (c .before .before .before .before .before .before .before .before .before .before .before .before .before .before .before .before .before .before .before .args .head) _ _ _ _ (c .before .before .before .before .before .before .before .before .before .before .before .before .before .before .before .before .before .before .before .args .cost) (sym (c .before .before .before .before .before .before .before .before .before .before .before .before .before .before .before .before .before .cut-asked .ensures) ∙ c .before .before .before .before .before .before .before .before .before .before .before .before .before .before .before .before .if1 .left) in (w .tags-room, (w .units-room, (w .uses-room, (w .tracked-held, (c .before .before .before .before .before .before .before .before .before .before .before .name-of .ensures, c .before .before .before .before .before .before .before .before .find .ensures)))))
 
 noted-requires : tie.Need-noted-requires
 noted-requires c κs = let w = cut-ready (c .before .before .before .before .before .before .before .before .before .before .before .before .before .before .before .before .before .before .before .before .before .before .before .before .before .before .args .head) _ _ _ _ (c .before .before .before .before .before .before .before .before .before .before .before .before .before .before .before .before .before .before .before .before .before .before .before .before .before .before .args .cost) (sym (c .before .before .before .before .before .before .before .before .before .before .before .before .before .before .before .before .before .before .before .before .before .before .before .before .cut-asked .ensures) ∙ c .before .before .before .before .before .before .before .before .before .before .before .before .before .before .before .before .before .before .before .before .before .before .before .if1 .left) in lt-by (c .before .before .before .before .before .before .handed-back .ensures .1) (w .counted-held)

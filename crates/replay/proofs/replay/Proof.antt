@@ -15,16 +15,16 @@ use Rattle.replay.proofs.replay.Statement.{statement}
 use Rattle.replay.proofs.replay.Tie as tie
 
 abbrev Inv-loop : tie.InvT-loop
-Inv-loop hashes₀ units₀ uses₀ counts₀ sums₀ counted₀ watched list out₀ run₀ i₀ hashes units uses counts sums counted out run i =
-    (i ≤ length list) × (state-of (run .head) (memory (rows hashes units uses) (hist counts sums) counted) ≡ state (state-of (run₀ .head) (memory (rows hashes₀ units₀ uses₀) (hist counts₀ sums₀) counted₀)) (steps (state-of (run₀ .head) (memory (rows hashes₀ units₀ uses₀) (hist counts₀ sums₀) counted₀)) out₀ list i .list))
-    × (length hashes ≡ length hashes₀) × (length units ≡ length units₀) × (length uses ≡ length uses₀) × (length counted ≡ length counted₀)
-    × (run .admitted ≡ totals admitted (state-of (run₀ .head) (memory (rows hashes₀ units₀ uses₀) (hist counts₀ sums₀) counted₀)) (steps (state-of (run₀ .head) (memory (rows hashes₀ units₀ uses₀) (hist counts₀ sums₀) counted₀)) out₀ list i .list)) × (run .handed ≡ totals handed (state-of (run₀ .head) (memory (rows hashes₀ units₀ uses₀) (hist counts₀ sums₀) counted₀)) (steps (state-of (run₀ .head) (memory (rows hashes₀ units₀ uses₀) (hist counts₀ sums₀) counted₀)) out₀ list i .list))
-    × (run .taken ≡ length (events (state-of (run₀ .head) (memory (rows hashes₀ units₀ uses₀) (hist counts₀ sums₀) counted₀)) (steps (state-of (run₀ .head) (memory (rows hashes₀ units₀ uses₀) (hist counts₀ sums₀) counted₀)) out₀ list i .list)) % 2 ^ 64)
-    × (run .«admitted_on» ≡ totals (admitted-on (own watched)) (state-of (run₀ .head) (memory (rows hashes₀ units₀ uses₀) (hist counts₀ sums₀) counted₀)) (steps (state-of (run₀ .head) (memory (rows hashes₀ units₀ uses₀) (hist counts₀ sums₀) counted₀)) out₀ list i .list))
-    × (length out ≡ length out₀) × (out ≡ steps (state-of (run₀ .head) (memory (rows hashes₀ units₀ uses₀) (hist counts₀ sums₀) counted₀)) out₀ list i .page)
+Inv-loop tags₀ units₀ uses₀ counts₀ sums₀ counted₀ watched list out₀ run₀ i₀ tags units uses counts sums counted out run i =
+    (i ≤ length list) × (state-of (run .head) (memory (rows tags units uses) (hist counts sums) counted) ≡ state (state-of (run₀ .head) (memory (rows tags₀ units₀ uses₀) (hist counts₀ sums₀) counted₀)) (steps (state-of (run₀ .head) (memory (rows tags₀ units₀ uses₀) (hist counts₀ sums₀) counted₀)) out₀ list i .list))
+    × (length tags ≡ length tags₀) × (length units ≡ length units₀) × (length uses ≡ length uses₀) × (length counted ≡ length counted₀)
+    × (run .admitted ≡ totals admitted (state-of (run₀ .head) (memory (rows tags₀ units₀ uses₀) (hist counts₀ sums₀) counted₀)) (steps (state-of (run₀ .head) (memory (rows tags₀ units₀ uses₀) (hist counts₀ sums₀) counted₀)) out₀ list i .list)) × (run .handed ≡ totals handed (state-of (run₀ .head) (memory (rows tags₀ units₀ uses₀) (hist counts₀ sums₀) counted₀)) (steps (state-of (run₀ .head) (memory (rows tags₀ units₀ uses₀) (hist counts₀ sums₀) counted₀)) out₀ list i .list))
+    × (run .taken ≡ length (events (state-of (run₀ .head) (memory (rows tags₀ units₀ uses₀) (hist counts₀ sums₀) counted₀)) (steps (state-of (run₀ .head) (memory (rows tags₀ units₀ uses₀) (hist counts₀ sums₀) counted₀)) out₀ list i .list)) % 2 ^ 64)
+    × (run .«admitted_on» ≡ totals (admitted-on (own watched)) (state-of (run₀ .head) (memory (rows tags₀ units₀ uses₀) (hist counts₀ sums₀) counted₀)) (steps (state-of (run₀ .head) (memory (rows tags₀ units₀ uses₀) (hist counts₀ sums₀) counted₀)) out₀ list i .list))
+    × (length out ≡ length out₀) × (out ≡ steps (state-of (run₀ .head) (memory (rows tags₀ units₀ uses₀) (hist counts₀ sums₀) counted₀)) out₀ list i .page)
 
 abbrev μ-loop : tie.MeasureT-loop
-μ-loop hashes₀ units₀ uses₀ counts₀ sums₀ counted₀ watched list out₀ run₀ i₀ hashes units uses counts sums counted out run i =
+μ-loop tags₀ units₀ uses₀ counts₀ sums₀ counted₀ watched list out₀ run₀ i₀ tags units uses counts sums counted out run i =
     length list - i
 
 loop-holds : tie.Need-loop-holds Inv-loop μ-loop

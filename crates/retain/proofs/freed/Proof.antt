@@ -5,11 +5,11 @@ use Rattle.store.specs.Store.{freed}
 use Rattle.retain.proofs.freed.Statement.{statement}
 use Rattle.retain.proofs.freed.Tie as tie
 
-mul-hashes : tie.Need-mul-hashes
-mul-hashes c = search needs
+mul-tags : tie.Need-mul-tags
+mul-tags c = search needs
 
-slice-write-hashes : tie.Need-slice-write-hashes
-slice-write-hashes c = search needs
+slice-write-tags : tie.Need-slice-write-tags
+slice-write-tags c = search needs
 
 mul-t5 : tie.Need-mul-t5
 mul-t5 c = search needs
@@ -40,8 +40,8 @@ pub freed-spec : {M : Type 1} → statement M
 freed-spec =
     tie.close
     (tie.spec
-    mul-hashes
-    slice-write-hashes
+    mul-tags
+    slice-write-tags
     mul-t5
     slice-set-from-units
     mul-t5-2

@@ -7,11 +7,11 @@ use Rattle.store.specs.Store.{moved}
 use Rattle.retain.proofs.moved.Statement.{statement}
 use Rattle.retain.proofs.moved.Tie as tie
 
-mul-hash : tie.Need-mul-hash
-mul-hash c = search needs
+mul-tag : tie.Need-mul-tag
+mul-tag c = search needs
 
-slice-read-hash : tie.Need-slice-read-hash
-slice-read-hash c = search needs
+slice-read-tag : tie.Need-slice-read-tag
+slice-read-tag c = search needs
 
 mul-row : tie.Need-mul-row
 mul-row c = search needs
@@ -25,11 +25,11 @@ mul-held c = search needs
 slice-copy-out-held : tie.Need-slice-copy-out-held
 slice-copy-out-held c = search needs
 
-mul-hashes : tie.Need-mul-hashes
-mul-hashes c = search needs
+mul-tags : tie.Need-mul-tags
+mul-tags c = search needs
 
-slice-write-hashes : tie.Need-slice-write-hashes
-slice-write-hashes c = search needs
+slice-write-tags : tie.Need-slice-write-tags
+slice-write-tags c = search needs
 
 mul-t9 : tie.Need-mul-t9
 mul-t9 c = search needs
@@ -43,11 +43,11 @@ mul-t9-2 c = search needs
 slice-set-from-uses : tie.Need-slice-set-from-uses
 slice-set-from-uses c = search needs
 
-mul-hashes-2 : tie.Need-mul-hashes-2
-mul-hashes-2 c = search needs
+mul-tags-2 : tie.Need-mul-tags-2
+mul-tags-2 c = search needs
 
-slice-write-hashes-2 : tie.Need-slice-write-hashes-2
-slice-write-hashes-2 c = simp length-set (omega arith)
+slice-write-tags-2 : tie.Need-slice-write-tags-2
+slice-write-tags-2 c = simp length-set (omega arith)
 
 mul-row-2 : tie.Need-mul-row-2
 mul-row-2 c = search needs
@@ -78,20 +78,20 @@ pub moved-spec : {M : Type 1} → statement M
 moved-spec =
     tie.close
     (tie.spec
-    mul-hash
-    slice-read-hash
+    mul-tag
+    slice-read-tag
     mul-row
     slice-copy-out-row
     mul-held
     slice-copy-out-held
-    mul-hashes
-    slice-write-hashes
+    mul-tags
+    slice-write-tags
     mul-t9
     slice-set-from-units
     mul-t9-2
     slice-set-from-uses
-    mul-hashes-2
-    slice-write-hashes-2
+    mul-tags-2
+    slice-write-tags-2
     mul-row-2
     slice-set-from-row
     mul-held-2

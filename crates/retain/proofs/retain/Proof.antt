@@ -10,13 +10,13 @@ use Rattle.retain.proofs.retain.Statement.{statement}
 use Rattle.retain.proofs.retain.Tie as tie
 
 abbrev Inv-loop : tie.InvT-loop
-Inv-loop hashes₀ units₀ uses₀ from n table at-ms i₀ j₀ hashes units uses i j = (i ≤ n) × (j ≤ i) × (n ≤ length hashes) × (length hashes ≡ length hashes₀) × (length units ≡ length units₀) × (length uses ≡ length uses₀) × (n ≤ length units) × (n ≤ length uses) × (kept j (rows hashes units uses) ≡ retained (rows hashes₀ units₀ uses₀) table at-ms i) × (from ≤ j)
+Inv-loop tags₀ units₀ uses₀ from n table at-ms i₀ j₀ tags units uses i j = (i ≤ n) × (j ≤ i) × (n ≤ length tags) × (length tags ≡ length tags₀) × (length units ≡ length units₀) × (length uses ≡ length uses₀) × (n ≤ length units) × (n ≤ length uses) × (kept j (rows tags units uses) ≡ retained (rows tags₀ units₀ uses₀) table at-ms i) × (from ≤ j)
 
 abbrev μ-loop : tie.MeasureT-loop
-μ-loop hashes₀ units₀ uses₀ from n table at-ms i₀ j₀ hashes units uses i j = n - i
+μ-loop tags₀ units₀ uses₀ from n table at-ms i₀ j₀ tags units uses i j = n - i
 
 loop-holds : tie.Need-loop-holds Inv-loop μ-loop
-loop-holds c = (search needs, search needs, search needs, refl, refl, refl, search needs, search needs, sym (retained-still (rows (c .before .args .hashes .now) (c .before .args .units .now) (c .before .args .uses .now)) _ _ _ (c .before .pre .1 .1 .1 .1)), search needs)
+loop-holds c = (search needs, search needs, search needs, refl, refl, refl, search needs, search needs, sym (retained-still (rows (c .before .args .tags .now) (c .before .args .units .now) (c .before .args .uses .now)) _ _ _ (c .before .pre .1 .1 .1 .1)), search needs)
 
 retain-one-requires : tie.Need-retain-one-requires Inv-loop μ-loop
 retain-one-requires c κs = search needs

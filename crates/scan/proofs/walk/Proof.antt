@@ -12,10 +12,10 @@ use Rattle.scan.proofs.walk.Statement.{statement}
 use Rattle.scan.proofs.walk.Tie as tie
 
 abbrev Inv-loop : tie.InvT-loop
-Inv-loop hashes units uses counts₀ sums₀ from n table at-ms i₀ counts sums i = (i ≤ n) × (n ≤ length hashes) × (n ≤ length units) × (n ≤ length uses) × (i < n → in-table hashes table i ≡ true) × ((g : Hist) → hist counts₀ sums₀ ≡ walk (rows hashes units uses) table at-ms from g → hist counts sums ≡ walk (rows hashes units uses) table at-ms i g)
+Inv-loop tags units uses counts₀ sums₀ from n table at-ms i₀ counts sums i = (i ≤ n) × (n ≤ length tags) × (n ≤ length units) × (n ≤ length uses) × (i < n → in-table tags table i ≡ true) × ((g : Hist) → hist counts₀ sums₀ ≡ walk (rows tags units uses) table at-ms from g → hist counts sums ≡ walk (rows tags units uses) table at-ms i g)
 
 abbrev μ-loop : tie.MeasureT-loop
-μ-loop hashes units uses counts₀ sums₀ from n table at-ms i₀ counts sums i = n - i
+μ-loop tags units uses counts₀ sums₀ from n table at-ms i₀ counts sums i = n - i
 
 next-in-requires : tie.Need-next-in-requires Inv-loop μ-loop
 next-in-requires c κs = search needs

@@ -12,10 +12,10 @@ use Rattle.scan.proofs.walk_to_stale.Statement.{statement}
 use Rattle.scan.proofs.walk_to_stale.Tie as tie
 
 abbrev Inv-loop : tie.InvT-loop
-Inv-loop hashes units uses counts₀ sums₀ n table at-ms i₀ counts sums i = (i ≤ n) × (n ≤ length hashes) × (n ≤ length units) × (n ≤ length uses) × (i < n → in-table hashes table i ≡ true) × None (is-stale hashes units table at-ms) 0 i × (hist counts sums ≡ walk (rows hashes units uses) table at-ms i (hist counts₀ sums₀))
+Inv-loop tags units uses counts₀ sums₀ n table at-ms i₀ counts sums i = (i ≤ n) × (n ≤ length tags) × (n ≤ length units) × (n ≤ length uses) × (i < n → in-table tags table i ≡ true) × None (is-stale tags units table at-ms) 0 i × (hist counts sums ≡ walk (rows tags units uses) table at-ms i (hist counts₀ sums₀))
 
 abbrev μ-loop : tie.MeasureT-loop
-μ-loop hashes units uses counts₀ sums₀ n table at-ms i₀ counts sums i = n - i
+μ-loop tags units uses counts₀ sums₀ n table at-ms i₀ counts sums i = n - i
 
 next-in-requires : tie.Need-next-in-requires Inv-loop μ-loop
 next-in-requires c κs = search needs

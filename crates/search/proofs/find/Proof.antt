@@ -5,21 +5,21 @@ use lib.ListN.{length}
 use mathlib.Core.Path.{_≡_, sym, _∙_}
 use native.Mathlib.Omega.{arith}
 use Rattle.store.specs.Store.{first, is-at, find}
-use Rattle.store.proofs.Steps.{first-none, first-past, no-hash, first-next, first-found}
+use Rattle.store.proofs.Steps.{first-none, first-past, no-tag, first-next, first-found}
 use Rattle.search.proofs.find.Statement.{statement}
 use Rattle.search.proofs.find.Tie as tie
 
 abbrev Inv-loop : tie.InvT-loop
-Inv-loop hashes units n w i₀ i = (i ≤ n) × (n ≤ length hashes) × (n ≤ length units) × (first (is-at hashes units w) i ≡ i)
+Inv-loop tags units n w i₀ i = (i ≤ n) × (n ≤ length tags) × (n ≤ length units) × (first (is-at tags units w) i ≡ i)
 
 abbrev μ-loop : tie.MeasureT-loop
-μ-loop hashes units n w i₀ i = n - i
+μ-loop tags units n w i₀ i = n - i
 
-skip-to-hash-requires : tie.Need-skip-to-hash-requires Inv-loop μ-loop
-skip-to-hash-requires c κs = search needs
+next-tagged-requires : tie.Need-next-tagged-requires Inv-loop μ-loop
+next-tagged-requires c κs = search needs
 
 loop-holds : tie.Need-loop-holds Inv-loop μ-loop
-loop-holds c = (search needs, search needs, search needs, first-past _ _ _ _ (no-hash _ _ _) (search needs) (c .skip-to-hash .ensures .1) (first-none _))
+loop-holds c = (search needs, search needs, search needs, first-past _ _ _ _ (no-tag _ _ _) (search needs) (c .next-tagged .ensures .1 .1 .0) (first-none _))
 
 is-at-requires : tie.Need-is-at-requires Inv-loop μ-loop
 is-at-requires c κs = search needs
@@ -28,14 +28,17 @@ returns : tie.Need-returns Inv-loop μ-loop
 unfolding find
 returns c = sym (first-found _ _ _ (c .before .before .loop-test .taken) (c .before .before .before .loop .inv .3) (sym (c .before .is-at .ensures) ∙ c .if1 .taken))
 
-add-i : tie.Need-add-i Inv-loop μ-loop
-add-i c = search needs
+add-next-tagged : tie.Need-add-next-tagged Inv-loop μ-loop
+add-next-tagged c = search needs
+
+next-tagged-requires-2 : tie.Need-next-tagged-requires-2 Inv-loop μ-loop
+next-tagged-requires-2 c κs = search needs
 
 loop-less : tie.Need-loop-less Inv-loop μ-loop
 loop-less c = search needs
 
 loop-again : tie.Need-loop-again Inv-loop μ-loop
-loop-again c = (search needs, search needs, search needs, first-next _ _ (c .before .before .before .loop .inv .3) (sym (c .before .is-at .ensures) ∙ c .if1 .left))
+loop-again c = (search needs, search needs, search needs, first-past _ _ _ _ (no-tag _ _ _) (search needs) (c .next-tagged2 .ensures .1 .1 .0) (first-next _ _ (c .before .before .before .before .loop .inv .3) (sym (c .before .before .is-at .ensures) ∙ c .before .if1 .left)))
 
 returns-2 : tie.Need-returns-2 Inv-loop μ-loop
 unfolding find
@@ -47,11 +50,12 @@ find-spec =
     (tie.spec
     Inv-loop
     μ-loop
-    skip-to-hash-requires
+    next-tagged-requires
     loop-holds
     is-at-requires
     returns
-    add-i
+    add-next-tagged
+    next-tagged-requires-2
     loop-less
     loop-again
     returns-2)

@@ -1,4 +1,4 @@
--- `search::near_table` meets its contract: where no lower half is met, none of the places passed is. Assumes nothing.
+-- `search::near_table` meets its contract: where none is met, no place passed is of the table. Assumes nothing.
 use Prim.Native.Nat.{_+_, _-_, _≤_}
 use borrow.Author.Needs.{needs}
 use borrow.Author.Tests.{ne-eqb}
@@ -13,10 +13,10 @@ use Rattle.search.proofs.near_table.Statement.{statement}
 use Rattle.search.proofs.near_table.Tie as tie
 
 abbrev Inv-loop : tie.InvT-loop
-Inv-loop hashes i table low met₀ k₀ met k = (k ≤ 8) × (i + 8 ≤ length hashes) × (low ≡ lower table) × (met ≡ false → None (in-table hashes table) i (i + k))
+Inv-loop tags i table low met₀ k₀ met k = (k ≤ 16) × (i + 16 ≤ length tags) × (low ≡ lower table) × (met ≡ false → None (in-table tags table) i (i + k))
 
 abbrev μ-loop : tie.MeasureT-loop
-μ-loop hashes i table low met₀ k₀ met k = 8 - k
+μ-loop tags i table low met₀ k₀ met k = 16 - k
 
 lower-requires : tie.Need-lower-requires Inv-loop μ-loop
 lower-requires c κs = search needs
@@ -52,7 +52,7 @@ loop-again c = (
 )
 
 returns : tie.Need-returns Inv-loop μ-loop
-returns c = let e : c .before .loop .k ≡ 8 = omega arith in λ f. rw e at (c .before .loop .inv .3 f)
+returns c = let e : c .before .loop .k ≡ 16 = omega arith in λ f. rw e at (c .before .loop .inv .3 f)
 
 pub near-table-spec : {M : Type 1} → statement M
 near-table-spec = tie.close (tie.spec Inv-loop μ-loop lower-requires loop-holds add-table-at table-at-requires lower-requires-2 add-k loop-less loop-again returns)

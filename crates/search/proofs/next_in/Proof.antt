@@ -11,10 +11,10 @@ use Rattle.search.proofs.next_in.Statement.{statement}
 use Rattle.search.proofs.next_in.Tie as tie
 
 abbrev Inv-loop : tie.InvT-loop
-Inv-loop hashes from n table i₀ i = (i ≤ n) × (n ≤ length hashes) × (from ≤ i) × None (in-table hashes table) from i
+Inv-loop tags from n table i₀ i = (i ≤ n) × (n ≤ length tags) × (from ≤ i) × None (in-table tags table) from i
 
 abbrev μ-loop : tie.MeasureT-loop
-μ-loop hashes from n table i₀ i = n - i
+μ-loop tags from n table i₀ i = n - i
 
 skip-to-table-requires : tie.Need-skip-to-table-requires Inv-loop μ-loop
 skip-to-table-requires c κs = search needs

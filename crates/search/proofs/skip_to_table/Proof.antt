@@ -1,4 +1,4 @@
--- `search::skip_to_table` meets its contract: the places passed, eight at a time. Assumes nothing.
+-- `search::skip_to_table` meets its contract: the places passed, sixteen at a time. Assumes nothing.
 use Prim.Native.Nat.{_≤_, _-_}
 use borrow.Author.Needs.{needs}
 use lib.ListN.{length}
@@ -8,10 +8,10 @@ use Rattle.search.proofs.skip_to_table.Statement.{statement}
 use Rattle.search.proofs.skip_to_table.Tie as tie
 
 abbrev Inv-loop : tie.InvT-loop
-Inv-loop hashes from n table i₀ i = (i ≤ n) × (n ≤ length hashes) × (from ≤ i) × None (in-table hashes table) from i
+Inv-loop tags from n table i₀ i = (i ≤ n) × (n ≤ length tags) × (from ≤ i) × None (in-table tags table) from i
 
 abbrev μ-loop : tie.MeasureT-loop
-μ-loop hashes from n table i₀ i = n - i
+μ-loop tags from n table i₀ i = n - i
 
 loop-holds : tie.Need-loop-holds Inv-loop μ-loop
 loop-holds c = (search needs, search needs, search needs, none-here _ _)

@@ -4,11 +4,11 @@ use Rattle.store.specs.Store.{added}
 use Rattle.store.proofs.add.Statement.{statement}
 use Rattle.store.proofs.add.Tie as tie
 
-mul-hashes : tie.Need-mul-hashes
-mul-hashes c = search needs
+mul-tags : tie.Need-mul-tags
+mul-tags c = search needs
 
-slice-write-hashes : tie.Need-slice-write-hashes
-slice-write-hashes c = search needs
+slice-write-tags : tie.Need-slice-write-tags
+slice-write-tags c = search needs
 
 mark-requires : tie.Need-mark-requires
 mark-requires c κs = search needs
@@ -45,8 +45,8 @@ pub add-spec : {M : Type 1} → statement M
 add-spec =
     tie.close
     (tie.spec
-    mul-hashes
-    slice-write-hashes
+    mul-tags
+    slice-write-tags
     mark-requires
     mul-t10
     slice-set-from-units

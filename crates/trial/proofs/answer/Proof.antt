@@ -20,7 +20,7 @@ same-length c = search needs
 returns : tie.Need-returns
 returns c =
     let a = c .before .before .before .before .before .before .before .before .args in
-    answer-long (state (a .t) (memory (rows (now (a .hashes)) (now (a .units)) (now (a .uses))) (hist (now (a .counts)) (now (a .sums))) (now (a .counted))) (now (a .out))) (now (a .line)) _ (omega arith) (c .before .before .refused .ensures (memory (rows (now (a .hashes)) (now (a .units)) (now (a .uses))) (hist (now (a .counts)) (now (a .sums))) (now (a .counted))))
+    answer-long (state (a .t) (memory (rows (now (a .tags)) (now (a .units)) (now (a .uses))) (hist (now (a .counts)) (now (a .sums))) (now (a .counted))) (now (a .out))) (now (a .line)) _ (omega arith) (c .before .before .refused .ensures (memory (rows (now (a .tags)) (now (a .units)) (now (a .uses))) (hist (now (a .counts)) (now (a .sums))) (now (a .counted))))
 
 read-line-requires : tie.Need-read-line-requires
 read-line-requires c κs = search needs
@@ -74,7 +74,7 @@ returns-2 : tie.Need-returns-2
 unfolding call
 returns-2 c =
     let a = c .before .before .before .before .before .before .before .before .before .before .before .before .before .before .before .before .before .before .args in
-    answer-line (state (a .t) (memory (rows (now (a .hashes)) (now (a .units)) (now (a .uses))) (hist (now (a .counts)) (now (a .sums))) (now (a .counted))) (now (a .out))) (now (a .line)) _ _ (omega (arith, c .before .before .before .before .before .before .before .before .before .before .before .before .before .before .if1 .left)) (c .before .before .before .before .before .before .before .before .before .before .before .before .before .read-line .ensures .0) (c .before .before .start .ensures ∙ ap (call (state (a .t) (memory (rows (now (a .hashes)) (now (a .units)) (now (a .uses))) (hist (now (a .counts)) (now (a .sums))) (now (a .counted))) (now (a .out)))) (sym (c .before .before .before .before .before .before .before .before .before .before .before .l .given .1)))
+    answer-line (state (a .t) (memory (rows (now (a .tags)) (now (a .units)) (now (a .uses))) (hist (now (a .counts)) (now (a .sums))) (now (a .counted))) (now (a .out))) (now (a .line)) _ _ (omega (arith, c .before .before .before .before .before .before .before .before .before .before .before .before .before .before .if1 .left)) (c .before .before .before .before .before .before .before .before .before .before .before .before .before .read-line .ensures .0) (c .before .before .start .ensures ∙ ap (call (state (a .t) (memory (rows (now (a .tags)) (now (a .units)) (now (a .uses))) (hist (now (a .counts)) (now (a .sums))) (now (a .counted))) (now (a .out)))) (sym (c .before .before .before .before .before .before .before .before .before .before .before .l .given .1)))
 
 same-length-7 : tie.Need-same-length-7
 same-length-7 c = search needs
@@ -95,7 +95,7 @@ returns-3 : tie.Need-returns-3
 unfolding call
 returns-3 c =
     let a = c .before .before .before .before .before .before .before .before .before .before .before .before .before .before .before .before .before .before .before .before .before .before .before .args in
-    answer-line (state (a .t) (memory (rows (now (a .hashes)) (now (a .units)) (now (a .uses))) (hist (now (a .counts)) (now (a .sums))) (now (a .counted))) (now (a .out))) (now (a .line)) _ _ (omega (arith, c .before .before .before .before .before .before .before .before .before .before .before .before .before .before .before .before .before .before .before .if1 .left)) (c .before .before .before .before .before .before .before .before .before .before .before .before .before .before .before .before .before .before .read-line .ensures .0) (c .before .before .before .before .before .before .before .judge .ensures ∙ ap (call (state (a .t) (memory (rows (now (a .hashes)) (now (a .units)) (now (a .uses))) (hist (now (a .counts)) (now (a .sums))) (now (a .counted))) (now (a .out)))) (sym (c .before .before .before .before .before .before .before .before .before .before .before .before .before .before .before .before .l2 .given .1)))
+    answer-line (state (a .t) (memory (rows (now (a .tags)) (now (a .units)) (now (a .uses))) (hist (now (a .counts)) (now (a .sums))) (now (a .counted))) (now (a .out))) (now (a .line)) _ _ (omega (arith, c .before .before .before .before .before .before .before .before .before .before .before .before .before .before .before .before .before .before .before .if1 .left)) (c .before .before .before .before .before .before .before .before .before .before .before .before .before .before .before .before .before .before .read-line .ensures .0) (c .before .before .before .before .before .before .before .judge .ensures ∙ ap (call (state (a .t) (memory (rows (now (a .tags)) (now (a .units)) (now (a .uses))) (hist (now (a .counts)) (now (a .sums))) (now (a .counted))) (now (a .out)))) (sym (c .before .before .before .before .before .before .before .before .before .before .before .before .before .before .before .before .l2 .given .1)))
 
 same-length-12 : tie.Need-same-length-12
 same-length-12 c = search needs
@@ -116,7 +116,7 @@ returns-4 : tie.Need-returns-4
 unfolding call
 returns-4 c =
     let a = c .before .before .before .before .before .before .before .before .before .before .before .before .before .before .before .before .before .before .before .before .before .args in
-    answer-line (state (a .t) (memory (rows (now (a .hashes)) (now (a .units)) (now (a .uses))) (hist (now (a .counts)) (now (a .sums))) (now (a .counted))) (now (a .out))) (now (a .line)) _ _ (omega (arith, c .before .before .before .before .before .before .before .before .before .before .before .before .before .before .before .before .before .if1 .left)) (c .before .before .before .before .before .before .before .before .before .before .before .before .before .before .before .before .read-line .ensures .0) (c .before .before .before .before .before .before .before .cut .ensures (hist (now (a .counts)) (now (a .sums))) ∙ ap (call (state (a .t) (memory (rows (now (a .hashes)) (now (a .units)) (now (a .uses))) (hist (now (a .counts)) (now (a .sums))) (now (a .counted))) (now (a .out)))) (sym (c .before .before .before .before .before .before .before .before .before .before .before .before .before .before .l3 .given .1)))
+    answer-line (state (a .t) (memory (rows (now (a .tags)) (now (a .units)) (now (a .uses))) (hist (now (a .counts)) (now (a .sums))) (now (a .counted))) (now (a .out))) (now (a .line)) _ _ (omega (arith, c .before .before .before .before .before .before .before .before .before .before .before .before .before .before .before .before .before .if1 .left)) (c .before .before .before .before .before .before .before .before .before .before .before .before .before .before .before .before .read-line .ensures .0) (c .before .before .before .before .before .before .before .cut .ensures (hist (now (a .counts)) (now (a .sums))) ∙ ap (call (state (a .t) (memory (rows (now (a .tags)) (now (a .units)) (now (a .uses))) (hist (now (a .counts)) (now (a .sums))) (now (a .counted))) (now (a .out)))) (sym (c .before .before .before .before .before .before .before .before .before .before .before .before .before .before .l3 .given .1)))
 
 same-length-17 : tie.Need-same-length-17
 same-length-17 c = search needs
@@ -137,7 +137,7 @@ returns-5 : tie.Need-returns-5
 unfolding call
 returns-5 c =
     let a = c .before .before .before .before .before .before .before .before .before .before .before .before .before .before .before .args in
-    answer-line (state (a .t) (memory (rows (now (a .hashes)) (now (a .units)) (now (a .uses))) (hist (now (a .counts)) (now (a .sums))) (now (a .counted))) (now (a .out))) (now (a .line)) _ _ (omega (arith, c .before .before .before .before .before .before .before .before .before .before .before .if1 .left)) (c .before .before .before .before .before .before .before .before .before .before .read-line .ensures .0) (c .before .before .report .ensures (hist (now (a .counts)) (now (a .sums))) ∙ ap (call (state (a .t) (memory (rows (now (a .hashes)) (now (a .units)) (now (a .uses))) (hist (now (a .counts)) (now (a .sums))) (now (a .counted))) (now (a .out)))) (sym (c .before .before .before .before .before .before .before .before .enum-told .given .1)))
+    answer-line (state (a .t) (memory (rows (now (a .tags)) (now (a .units)) (now (a .uses))) (hist (now (a .counts)) (now (a .sums))) (now (a .counted))) (now (a .out))) (now (a .line)) _ _ (omega (arith, c .before .before .before .before .before .before .before .before .before .before .before .if1 .left)) (c .before .before .before .before .before .before .before .before .before .before .read-line .ensures .0) (c .before .before .report .ensures (hist (now (a .counts)) (now (a .sums))) ∙ ap (call (state (a .t) (memory (rows (now (a .tags)) (now (a .units)) (now (a .uses))) (hist (now (a .counts)) (now (a .sums))) (now (a .counted))) (now (a .out)))) (sym (c .before .before .before .before .before .before .before .before .enum-told .given .1)))
 
 same-length-22 : tie.Need-same-length-22
 same-length-22 c = search needs
@@ -146,7 +146,7 @@ returns-6 : tie.Need-returns-6
 unfolding call
 returns-6 c =
     let a = c .before .before .before .before .before .before .before .before .before .before .before .args in
-    answer-line (state (a .t) (memory (rows (now (a .hashes)) (now (a .units)) (now (a .uses))) (hist (now (a .counts)) (now (a .sums))) (now (a .counted))) (now (a .out))) (now (a .line)) _ _ (omega (arith, c .before .before .before .before .before .before .before .if1 .left)) (c .before .before .before .before .before .before .read-line .ensures .0) (c .before .before .refused2 .ensures (memory (rows (now (a .hashes)) (now (a .units)) (now (a .uses))) (hist (now (a .counts)) (now (a .sums))) (now (a .counted))) ∙ ap (call (state (a .t) (memory (rows (now (a .hashes)) (now (a .units)) (now (a .uses))) (hist (now (a .counts)) (now (a .sums))) (now (a .counted))) (now (a .out)))) (sym (c .before .before .before .before .enum-told2 .given .1)))
+    answer-line (state (a .t) (memory (rows (now (a .tags)) (now (a .units)) (now (a .uses))) (hist (now (a .counts)) (now (a .sums))) (now (a .counted))) (now (a .out))) (now (a .line)) _ _ (omega (arith, c .before .before .before .before .before .before .before .if1 .left)) (c .before .before .before .before .before .before .read-line .ensures .0) (c .before .before .refused2 .ensures (memory (rows (now (a .tags)) (now (a .units)) (now (a .uses))) (hist (now (a .counts)) (now (a .sums))) (now (a .counted))) ∙ ap (call (state (a .t) (memory (rows (now (a .tags)) (now (a .units)) (now (a .uses))) (hist (now (a .counts)) (now (a .sums))) (now (a .counted))) (now (a .out)))) (sym (c .before .before .before .before .enum-told2 .given .1)))
 
 pub answer-spec : {M : Type 1} → statement M
 answer-spec =

@@ -19,7 +19,7 @@ same-length c = search needs
 returns : tie.Need-returns
 returns c =
     let a = c .before .before .before .before .before .before .before .before .args in
-    λ g. report-unstarted (state (a .t) (memory (rows (now (a .hashes)) (now (a .units)) (now (a .uses))) g (now (a .counted))) (now (a .out))) _ (not-true (a .t .«is_started») (c .before .before .before .before .if1 .taken)) (c .before .before .refused .ensures (memory (rows (now (a .hashes)) (now (a .units)) (now (a .uses))) g (now (a .counted))))
+    λ g. report-unstarted (state (a .t) (memory (rows (now (a .tags)) (now (a .units)) (now (a .uses))) g (now (a .counted))) (now (a .out))) _ (not-true (a .t .«is_started») (c .before .before .before .before .if1 .taken)) (c .before .before .refused .ensures (memory (rows (now (a .tags)) (now (a .units)) (now (a .uses))) g (now (a .counted))))
 
 slice-aggregate-report-refusal : tie.Need-slice-aggregate-report-refusal
 slice-aggregate-report-refusal c = search needs
@@ -36,8 +36,8 @@ same-length-2 c = search needs
 returns-2 : tie.Need-returns-2
 returns-2 c =
     let a = c .before .before .before .before .before .before .before .before .before .before .before .before .args in
-    λ g. report-refused (state (a .t) (memory (rows (now (a .hashes)) (now (a .units)) (now (a .uses))) g (now (a .counted))) (now (a .out))) _ _ _ (not-false (a .t .«is_started») (c .before .before .before .before .before .before .before .before .if1 .left)) (c .before .before .before .before .before .report-refusal .ensures)
-    (omega (arith, slice-aggregate-report-refusal (c .before .before .before .before .before .before))) (c .before .before .before .before .if2 .taken) (c .before .before .refused2 .ensures (memory (rows (now (a .hashes)) (now (a .units)) (now (a .uses))) g (now (a .counted))))
+    λ g. report-refused (state (a .t) (memory (rows (now (a .tags)) (now (a .units)) (now (a .uses))) g (now (a .counted))) (now (a .out))) _ _ _ (not-false (a .t .«is_started») (c .before .before .before .before .before .before .before .before .if1 .left)) (c .before .before .before .before .before .report-refusal .ensures)
+    (omega (arith, slice-aggregate-report-refusal (c .before .before .before .before .before .before))) (c .before .before .before .before .if2 .taken) (c .before .before .refused2 .ensures (memory (rows (now (a .tags)) (now (a .units)) (now (a .uses))) g (now (a .counted))))
 
 slice-aggregate-report : tie.Need-slice-aggregate-report
 slice-aggregate-report c = search needs
@@ -54,7 +54,7 @@ same-length-3 c = search needs
 returns-3 : tie.Need-returns-3
 returns-3 c =
     let a = c .before .before .before .before .before .before .before .before .before .before .before .before .before .before .before .before .args in
-    λ g. report-step (state (a .t) (memory (rows (now (a .hashes)) (now (a .units)) (now (a .uses))) g (now (a .counted))) (now (a .out))) _ _ _ _ _ (not-false (a .t .«is_started») (c .before .before .before .before .before .before .before .before .before .before .before .before .if1 .left)) (c .before .before .before .before .before .before .before .before .before .report-refusal .ensures)
+    λ g. report-step (state (a .t) (memory (rows (now (a .tags)) (now (a .units)) (now (a .uses))) g (now (a .counted))) (now (a .out))) _ _ _ _ _ (not-false (a .t .«is_started») (c .before .before .before .before .before .before .before .before .before .before .before .before .if1 .left)) (c .before .before .before .before .before .before .before .before .before .report-refusal .ensures)
     (omega (arith, slice-aggregate-report-refusal (c .before .before .before .before .before .before .before .before .before .before))) (omega (arith, slice-aggregate-report (c .before .before .before .before .before .before .before))) (c .before .before .before .before .before .before .before .before .if2 .left) (c .before .before .before .before .before .before .report .ensures) (c .before .before .before .put .ensures)
 
 pub report-spec : {M : Type 1} → statement M

@@ -30,7 +30,7 @@ same-length c = search needs
 returns : tie.Need-returns
 returns c =
     let a = c .before .before .before .before .before .before .before .before .before .before .before .before .before .before .args in
-    start-step (state (a .t) (memory (rows (now (a .hashes)) (now (a .units)) (now (a .uses))) (hist (now (a .counts)) (now (a .sums))) (now (a .counted))) (now (a .out))) (a .l) (c .before .before .before .before .before .before .start .result) _ _ _ _ _ (c .before .before .before .before .before .before .before .before .of-dims .ensures) (c .before .before .before .before .before .before .before .of-dims2 .ensures) (c .before .before .before .before .before .before .start .ensures .0)
+    start-step (state (a .t) (memory (rows (now (a .tags)) (now (a .units)) (now (a .uses))) (hist (now (a .counts)) (now (a .sums))) (now (a .counted))) (now (a .out))) (a .l) (c .before .before .before .before .before .before .start .result) _ _ _ _ _ (c .before .before .before .before .before .before .before .before .of-dims .ensures) (c .before .before .before .before .before .before .before .of-dims2 .ensures) (c .before .before .before .before .before .before .start .ensures .0)
     (c .before .before .before .put-begin .ensures) (c .has-begun .ensures)
 
 pub start-spec : {M : Type 1} → statement M

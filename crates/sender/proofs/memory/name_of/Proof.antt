@@ -1,5 +1,6 @@
--- `sender::memory::name_of` is the hash and the words.
-use Rattle.sender.specs.Sender.{name-of}
+-- `sender::memory::name_of` is the name by the unit's hash.
+use mathlib.Core.Path.{ap, _∙_}
+use Rattle.sender.specs.Sender.{name-by-hash}
 use borrow.Author.Needs.{needs}
 use Rattle.sender.proofs.memory.name_of.Statement.{statement}
 use Rattle.sender.proofs.memory.name_of.Tie as tie
@@ -7,12 +8,11 @@ use Rattle.sender.proofs.memory.name_of.Tie as tie
 hash-of-requires : tie.Need-hash-of-requires
 hash-of-requires c κs = search needs
 
-words-of-requires : tie.Need-words-of-requires
-words-of-requires c κs = search needs
+name-by-hash-requires : tie.Need-name-by-hash-requires
+name-by-hash-requires c κs = search needs
 
 returns : tie.Need-returns
-unfolding name-of
-returns c = cc
+returns c = c .name-by-hash .ensures ∙ ap (name-by-hash _) (c .before .hash-of .ensures)
 
 pub name-of-spec : {M : Type 1} → statement M
-name-of-spec = tie.close (tie.spec hash-of-requires words-of-requires returns)
+name-of-spec = tie.close (tie.spec hash-of-requires name-by-hash-requires returns)

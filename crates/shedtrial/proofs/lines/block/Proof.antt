@@ -6,10 +6,10 @@ use Rattle.shedtrial.proofs.lines.block.Statement.{statement}
 use Rattle.shedtrial.proofs.lines.block.Tie as tie
 
 abbrev Inv-loop : tie.InvT-loop
-Inv-loop hashes₀ units₀ uses₀ counts₀ sums₀ counted₀ line₀ page₀ input s₀ i₀ hashes units uses counts sums counted line page s i = i ≤ length input
+Inv-loop tags₀ units₀ uses₀ counts₀ sums₀ counted₀ line₀ page₀ input s₀ i₀ tags units uses counts sums counted line page s i = i ≤ length input
 
 abbrev μ-loop : tie.MeasureT-loop
-μ-loop hashes₀ units₀ uses₀ counts₀ sums₀ counted₀ line₀ page₀ input s₀ i₀ hashes units uses counts sums counted line page s i = length input - i
+μ-loop tags₀ units₀ uses₀ counts₀ sums₀ counted₀ line₀ page₀ input s₀ i₀ tags units uses counts sums counted line page s i = length input - i
 
 loop-holds : tie.Need-loop-holds Inv-loop μ-loop
 loop-holds c = omega arith

@@ -4,10 +4,10 @@ use Rattle.shedtrial.proofs.lines.serve.Statement.{statement}
 use Rattle.shedtrial.proofs.lines.serve.Tie as tie
 
 abbrev Inv-loop : tie.InvT-loop
-Inv-loop hashes₀ units₀ uses₀ counts₀ sums₀ counted₀ line₀ page₀ s₀ turns₀ hashes units uses counts sums counted line page s turns = Unit {0}
+Inv-loop tags₀ units₀ uses₀ counts₀ sums₀ counted₀ line₀ page₀ s₀ turns₀ tags units uses counts sums counted line page s turns = Unit {0}
 
 abbrev μ-loop : tie.MeasureT-loop
-μ-loop hashes₀ units₀ uses₀ counts₀ sums₀ counted₀ line₀ page₀ s₀ turns₀ hashes units uses counts sums counted line page s turns = turns
+μ-loop tags₀ units₀ uses₀ counts₀ sums₀ counted₀ line₀ page₀ s₀ turns₀ tags units uses counts sums counted line page s turns = turns
 
 unstarted-requires : tie.Need-unstarted-requires Inv-loop μ-loop
 unstarted-requires c κs = tt

@@ -5,10 +5,10 @@ use Rattle.tries.proofs.same.records.Statement.{statement}
 use Rattle.tries.proofs.same.records.Tie as tie
 
 abbrev Inv-loop : tie.InvT-loop
-Inv-loop hashes units uses was-hashes was-units was-uses i₀ i = i ≤ 4
+Inv-loop tags units uses was-tags was-units was-uses i₀ i = i ≤ 4
 
 abbrev μ-loop : tie.MeasureT-loop
-μ-loop hashes units uses was-hashes was-units was-uses i₀ i = 4 - i
+μ-loop tags units uses was-tags was-units was-uses i₀ i = 4 - i
 
 loop-holds : tie.Need-loop-holds Inv-loop μ-loop
 loop-holds c = search needs
