@@ -1,24 +1,29 @@
 -- The rows of counted sources: found, counted, and the least counted left out. Definitions only.
-use Prim.Native.Nat.{ℕ, _+_, _-_, _/_, _%_, _^_}
-use mathlib.Core.Bool.{Bool, true, false}
+use Prim.Native.Nat.{ℕ, zero, suc, _+_, _-_, _/_, _%_, _^_}
+use mathlib.Core.Bool.{Bool, true, false, cond}
 use mathlib.Core.List.{List, [], _∷_, _++_, map}
-use lib.Dec.{ltb}
+use lib.Dec.{eqb, ltb}
 use lib.ListN.{length, getD, set, replicate, take, drop}
+use Rattle.sender.specs.declared.Name.{Name}
 use Rattle.sender.specs.declared.Words.{Words}
 use Rattle.sender.specs.Sender.{words-of, unit-of}
 use Rattle.store.specs.Store.{same, words-at, first}
 use Rattle.counted.specs.Sorted.{sorted}
 
--- ---- counted sources: kind, four words, three counts
+-- ---- counted sources: a tag, and a row of kind, four words, three counts
 abbrev pub counted-row : List (List ℕ) → ℕ → List ℕ
 counted-row rows i = getD rows i []
 
 -- the words are those of the unit that the row reads as
-unfoldable pub counted-is : List (List ℕ) → Words → ℕ → Bool
-counted-is rows w i = same (words-of (unit-of (words-at rows i))) w
+unfoldable pub reads-as : List (List ℕ) → Words → ℕ → Bool
+reads-as rows w i = same (words-of (unit-of (words-at rows i))) w
 
-unfoldable pub counted-find : List (List ℕ) → Words → ℕ → ℕ
-counted-find rows w n = first (counted-is rows w) n
+-- the source at i is the unit's: tag and words; one whose tag is not its unit's is not found
+unfoldable pub counted-is : List ℕ → List (List ℕ) → Name → ℕ → Bool
+counted-is tags rows name i = cond (eqb (getD tags i 0) (name .tag)) (reads-as rows (name .words) i) false
+
+unfoldable pub counted-find : List ℕ → List (List ℕ) → Name → ℕ → ℕ
+counted-find tags rows name n = first (counted-is tags rows name) n
 
 -- one more for a cause, modulo 2^64
 unfoldable pub counted-up : List (List ℕ) → ℕ → ℕ → List (List ℕ)
@@ -40,10 +45,19 @@ abbrev pub choose : Bool → Sources → Sources → Sources
 choose true a b = a
 choose false a b = b
 
+abbrev pub either : Bool → List ℕ → List ℕ → List ℕ
+either true a b = a
+either false a b = b
+
 -- of n sources the unit's is counted for a cause once more; it is added at the end where it is not among them
-unfoldable pub count : List (List ℕ) → ℕ → Words → ℕ → Sources
-count rows n w cause =
-    choose (ltb (counted-find rows w n) n) (sources n (counted-up rows (counted-find rows w n) cause)) (sources (n + 1) (counted-up (counted-add rows n w) n cause))
+unfoldable pub count : List ℕ → List (List ℕ) → ℕ → Name → ℕ → Sources
+count tags rows n name cause =
+    choose (ltb (counted-find tags rows name n) n) (sources n (counted-up rows (counted-find tags rows name n) cause))
+    (sources (n + 1) (counted-up (counted-add rows n (name .words)) n cause))
+
+-- the tags then
+unfoldable pub count-tags : List ℕ → List (List ℕ) → ℕ → Name → List ℕ
+count-tags tags rows n name = either (ltb (counted-find tags rows name n) n) tags (set tags n (name .tag))
 
 -- ---- leaving out the least counted
 -- a source's total: the sum of its three counts, modulo 2^64
@@ -94,3 +108,16 @@ prune-one s k i =
 -- where every row is taken, the spare one too, only totals above k remain
 unfoldable pub pruned : Sources → Sources
 pruned s = choose (ltb (s .count) (length (s .rows))) s (prune (s .rows) (keep-from (totals (s .rows) (s .count))) (s .count))
+
+-- ---- the tags go with their rows
+-- the source at i of this total: its tag goes to j, the end of those kept, where the total is above k; its own place becomes 0
+unfoldable pub tag-moved : List ℕ → ℕ → ℕ → ℕ → ℕ → List ℕ
+tag-moved tags total k i j = either (ltb k total) (set (set tags i 0) j (getD tags i 0)) (set tags i 0)
+
+-- of the first n sources, one after the other
+unfoldable pub prune-tags : List ℕ → List (List ℕ) → ℕ → ℕ → List ℕ
+prune-tags tags rows k zero = tags
+prune-tags tags rows k (suc n) = tag-moved (prune-tags tags rows k n) (total-at (prune rows k n .rows) n) k n (prune rows k n .count)
+
+unfoldable pub pruned-tags : Sources → List ℕ → List ℕ
+pruned-tags s tags = either (ltb (s .count) (length (s .rows))) tags (prune-tags tags (s .rows) (keep-from (totals (s .rows) (s .count))) (s .count))

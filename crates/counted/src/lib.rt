@@ -1,20 +1,19 @@
 // Rows of counted sources: how often each sender was cut, for each cause.
 ghost use mathlib.Core.Path.{_≡_};
-ghost use mathlib.Core.Bool.{true, false};
 ghost use Prim.Native.Nat.{_<_, _≤_, _+_};
 ghost use lib.ListN.{length};
-ghost use Rattle.sender.specs.Sender as sender;
 ghost use Rattle.store.specs.Store as store;
 ghost use Rattle.counted.specs.Counted as counts;
 
 mod totals;
 
+use sender::Name;
 use sender::Words;
 use store::same;
 use totals::keep_from;
 pub use totals::total_at;
 
-// ---- counted sources: kind, four words, three counts
+// ---- a counted source: a tag, and a row of kind, four words, three counts
 
 pub fn counted_words(counted: &[[u64; 8]], i: usize) -> Words
     requires { ⌜ i < length (now counted) ⌝ }
@@ -39,39 +38,28 @@ pub fn counts_at(counted: &[[u64; 8]], i: usize) -> [u64; 3]
     [row[5], row[6], row[7]]
 }
 
-// Whether the first words tell a row's words from a unit's. A key or a group keeps its first word, so most rows are told by it.
-fn is_other(v: Words, w: Words) -> bool
-    ensures { λ r. ⌜ (r ≡ true → store.same (sender.words-of (sender.unit-of v)) w ≡ false) ⌝ }
-{
-    if w.kind < 3 {
-        return v.a != w.a;
-    }
-    false
-}
-
 // Whether the words are those of the unit that the row reads as.
-fn counted_is(counted: &[[u64; 8]], i: usize, w: Words) -> bool
+fn reads_as(counted: &[[u64; 8]], i: usize, w: Words) -> bool
     requires { ⌜ i < length (now counted) ⌝ }
-    ensures { λ r. ⌜ r ≡ counts.counted-is (now (counted .entry)) w i ⌝ }
+    ensures { λ r. ⌜ r ≡ counts.reads-as (now (counted .entry)) w i ⌝ }
 {
-    let v = counted_words(counted, i);
-    if is_other(v, w) {
-        return false;
-    }
-    let unit = sender::unit_of(v);
+    let unit = sender::unit_of(counted_words(counted, i));
     same(sender::words_of(unit), w)
 }
 
-fn counted_find(counted: &[[u64; 8]], n: usize, w: Words) -> usize
+// The first of n sources that is the unit's, else n. Its tag is sought, so that a search reads 2 bytes a source.
+fn counted_find(tags: &[u16], counted: &[[u64; 8]], n: usize, name: Name) -> usize
+    requires { ⌜ n ≤ length (now tags) ⌝ }
     requires { ⌜ n ≤ length (now counted) ⌝ }
-    ensures { λ r. ⌜ r ≡ counts.counted-find (now (counted .entry)) w n ⌝ }
+    ensures { λ r. ⌜ r ≡ counts.counted-find (now (tags .entry)) (now (counted .entry)) name n ⌝ }
 {
-    let mut i = 0;
+    let w = name.words;
+    let mut i = search::next_tagged(tags, 0, n, name.tag);
     while i < n {
-        if counted_is(counted, i, w) {
+        if reads_as(counted, i, w) {
             return i;
         }
-        i += 1;
+        i = search::next_tagged(tags, i + 1, n, name.tag);
     }
     n
 }
@@ -96,17 +84,27 @@ fn counted_add(counted: &mut [[u64; 8]], i: usize, w: Words)
 }
 
 // Of n sources, the unit's count for a cause is one more; how many sources there are then.
-pub fn count(counted: &mut [[u64; 8]], n: usize, w: Words, cause: usize) -> usize
+pub fn count(
+    tags: &mut [u16],
+    counted: &mut [[u64; 8]],
+    n: usize,
+    name: Name,
+    cause: usize,
+) -> usize
+    requires { ⌜ n < length (now tags) ⌝ }
     requires { ⌜ n < length (now counted) ⌝ }
     requires { ⌜ cause < 3 ⌝ }
-    ensures { λ r. ⌜ counts.sources r (now (counted .exit)) ≡ counts.count (now (counted .entry)) n w cause ⌝ }
+    ensures { λ r. ⌜ counts.sources r (now (counted .exit)) ≡ counts.count (now (tags .entry)) (now (counted .entry)) n name cause ⌝ }
+    ensures { λ r. ⌜ now (tags .exit) ≡ counts.count-tags (now (tags .entry)) (now (counted .entry)) n name ⌝ }
     ensures { λ r. ⌜ r ≤ n + 1 ⌝ }
 {
-    let i = counted_find(counted, n, w);
+    let i = counted_find(tags, counted, n, name);
     if i < n {
         counted_up(counted, i, cause);
         return n;
     }
+    let w = name.words;
+    tags[n] = name.tag;
     counted_add(counted, n, w);
     counted_up(counted, n, cause);
     n + 1
@@ -115,41 +113,51 @@ pub fn count(counted: &mut [[u64; 8]], n: usize, w: Words, cause: usize) -> usiz
 // ---- leaving out the least counted
 
 // The source at i: moved to j, the end of those kept, where its total is above k, else freed.
-fn prune_one(counted: &mut [[u64; 8]], i: usize, j: usize, k: u64) -> usize
+fn prune_one(tags: &mut [u16], counted: &mut [[u64; 8]], i: usize, j: usize, k: u64) -> usize
+    requires { ⌜ i < length (now tags) ⌝ }
     requires { ⌜ i < length (now counted) ⌝ }
     requires { ⌜ j ≤ i ⌝ }
     ensures { λ r. ⌜ counts.sources r (now (counted .exit)) ≡ counts.prune-one (counts.sources j (now (counted .entry))) k i ⌝ }
+    ensures { λ r. ⌜ now (tags .exit) ≡ counts.tag-moved (now (tags .entry)) (counts.total-at (now (counted .entry)) i) k i j ⌝ }
     ensures { λ r. ⌜ r ≤ i + 1 ⌝ }
 {
+    let tag = tags[i];
     let row = counted[i];
     if k < total_at(counted, i) {
+        tags[i] = 0;
+        tags[j] = tag;
         counted[i] = [0u64; 8];
         counted[j] = row;
         return j + 1;
     }
+    tags[i] = 0;
     counted[i] = [0u64; 8];
     j
 }
 
 // Of n sources those above k stay, in their order; freed places become 0.
-fn prune(counted: &mut [[u64; 8]], n: usize, k: u64) -> usize
+fn prune(tags: &mut [u16], counted: &mut [[u64; 8]], n: usize, k: u64) -> usize
+    requires { ⌜ n ≤ length (now tags) ⌝ }
     requires { ⌜ n ≤ length (now counted) ⌝ }
     ensures { λ r. ⌜ counts.sources r (now (counted .exit)) ≡ counts.prune (now (counted .entry)) k n ⌝ }
+    ensures { λ r. ⌜ now (tags .exit) ≡ counts.prune-tags (now (tags .entry)) (now (counted .entry)) k n ⌝ }
     ensures { λ r. ⌜ r ≤ n ⌝ }
 {
     let mut i = 0;
     let mut j = 0;
     while i < n {
-        j = prune_one(counted, i, j, k);
+        j = prune_one(tags, counted, i, j, k);
         i += 1;
     }
     j
 }
 
 // Where the spare row is taken too, the least counted are left out; then at least one row is free again.
-pub fn pruned(counted: &mut [[u64; 8]], n: usize) -> usize
+pub fn pruned(tags: &mut [u16], counted: &mut [[u64; 8]], n: usize) -> usize
+    requires { ⌜ n ≤ length (now tags) ⌝ }
     requires { ⌜ n ≤ length (now counted) ⌝ }
     ensures { λ r. ⌜ counts.sources r (now (counted .exit)) ≡ counts.pruned (counts.sources n (now (counted .entry))) ⌝ }
+    ensures { λ r. ⌜ now (tags .exit) ≡ counts.pruned-tags (counts.sources n (now (counted .entry))) (now (tags .entry)) ⌝ }
     ensures { λ r. ⌜ r ≤ n ⌝ }
     ensures { λ r. ⌜ (0 < length (now (counted .entry)) → r < length (now (counted .entry))) ⌝ }
 {
@@ -157,5 +165,5 @@ pub fn pruned(counted: &mut [[u64; 8]], n: usize) -> usize
         return n;
     }
     let k = keep_from(counted, n);
-    prune(counted, n, k)
+    prune(tags, counted, n, k)
 }

@@ -44,7 +44,7 @@ pub fn entry(
     i: usize,
     clock: u64,
 ) -> Place
-    requires { ⌜ length (now tags) ≡ room ⌝ }
+    requires { ⌜ room ≤ length (now tags) ⌝ }
     requires { ⌜ length (now units) ≡ room ⌝ }
     requires { ⌜ length (now uses) ≡ room ⌝ }
     requires { ⌜ tracked ≤ room ⌝ }

@@ -8,7 +8,7 @@ use native.Mathlib.Omega.{arith}
 use lib.Dec.{eqb, leb}
 use borrow.Author.Tests.{eqb-true}
 use Rattle.head.specs.declared.Shedder.{Shedder}
-use Rattle.head.specs.Questions.{is-stamp, tables-whole, head-whole, memory-whole, costs-held, judge-asked, Ready, cut-asked, CutReady}
+use Rattle.head.specs.Questions.{is-stamp, tables-whole, head-whole, tags-whole, memory-whole, costs-held, judge-asked, Ready, cut-asked, CutReady}
 use Rattle.head.proofs.Tests.{zero-yes, yes-yes, one-of}
 use Rattle.head.proofs.Whole.{stamp-of, whole-of}
 
@@ -21,13 +21,13 @@ tables-of r n e =
 
 module _ (h : Shedder) where
   module _ (i u s k : ℕ) where
-    memory-of : memory-whole h i u s k ≡ true → (i ≡ h .«unit_room») × (u ≡ h .«unit_room») × (s ≡ h .«unit_room») × (k ≡ h .«counted_room»)
-    unfolding memory-whole
+    memory-of : memory-whole h i u s k ≡ true → (i ≡ h .«unit_room» + k) × (u ≡ h .«unit_room») × (s ≡ h .«unit_room») × (k ≡ h .«counted_room»)
+    unfolding memory-whole tags-whole
     memory-of e =
-        let a = yes-yes (eqb i (h .«unit_room»)) _ e in
+        let a = yes-yes (eqb i (u + k)) _ e in
         let b = yes-yes (eqb u (h .«unit_room»)) _ (a .1) in
         let d = yes-yes (eqb s (h .«unit_room»)) _ (b .1) in
-        (eqb-true i (h .«unit_room») (a .0), eqb-true u (h .«unit_room») (b .0), eqb-true s (h .«unit_room») (d .0), eqb-true k (h .«counted_room») (d .1))
+        (omega (arith, eqb-true i (u + k) (a .0), eqb-true u (h .«unit_room») (b .0)), eqb-true u (h .«unit_room») (b .0), eqb-true s (h .«unit_room») (d .0), eqb-true k (h .«counted_room») (d .1))
 
     pub asked-ready : (cost : List ℕ) (stamp : ℕ) → judge-asked h i u s k cost stamp ≡ 0 → Ready h i u s k stamp
     unfolding judge-asked

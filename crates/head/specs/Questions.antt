@@ -31,9 +31,13 @@ unfoldable pub rooms-whole : ℕ → ℕ → ℕ → ℕ → Bool
 rooms-whole u c tracked counted =
     cond (ltb u 1) false (cond (ltb 131072 u) false (cond (ltb c 2) false (cond (ltb 4097 c) false (cond (ltb u tracked) false (ltb counted c)))))
 
--- by the lengths of the lent slices: the three of the unit records are equally long
+-- a tag for each record: those of the unit records, then those of the counted records
+unfoldable pub tags-whole : ℕ → ℕ → ℕ → Bool
+tags-whole tags units counted = eqb tags (units + counted)
+
+-- by the lengths of the lent slices
 unfoldable pub sizes-whole : ℕ → ℕ → ℕ → ℕ → Bool
-sizes-whole tags units uses counted = cond (eqb units tags) (cond (eqb uses tags) (rooms-whole tags counted 0 0) false) false
+sizes-whole tags units uses counted = cond (tags-whole tags units counted) (cond (eqb uses units) (rooms-whole units counted 0 0) false) false
 
 -- ---- question 3: the head is whole
 -- at most 2^53 − 1
@@ -54,7 +58,7 @@ head-whole h =
 
 -- ---- question 4: the lent slices have the capacities noted at the start
 unfoldable pub memory-whole : Shedder → ℕ → ℕ → ℕ → ℕ → Bool
-memory-whole h tags units uses counted = cond (eqb tags (h .«unit_room»)) (cond (eqb units (h .«unit_room»)) (cond (eqb uses (h .«unit_room»)) (eqb counted (h .«counted_room»)) false) false) false
+memory-whole h tags units uses counted = cond (tags-whole tags units counted) (cond (eqb units (h .«unit_room»)) (cond (eqb uses (h .«unit_room»)) (eqb counted (h .«counted_room»)) false) false) false
 
 -- ---- question 5: each cost is at most 2^40 (question 6 is `is-stamp` of the stamp)
 unfoldable pub costs-held : List ℕ → Bool
@@ -76,7 +80,7 @@ read-asked h = cond (head-whole h) 0 3
 
 -- ---- what the questions have shown, for the calls behind them
 pub record Ready (h : Shedder) (tags units uses counted stamp : ℕ) : Type 0 where
-  pub tags-room : tags ≡ h .«unit_room»
+  pub tags-room : tags ≡ h .«unit_room» + counted
   pub units-room : units ≡ h .«unit_room»
   pub uses-room : uses ≡ h .«unit_room»
   pub tracked-held : h .tracked ≤ h .«unit_room»
@@ -87,7 +91,7 @@ pub record Ready (h : Shedder) (tags units uses counted stamp : ℕ) : Type 0 wh
   pub tables-held : h .scan .remaining + h .scan .next ≤ 64
 
 pub record CutReady (h : Shedder) (tags units uses counted : ℕ) : Type 0 where
-  pub tags-room : tags ≡ h .«unit_room»
+  pub tags-room : tags ≡ h .«unit_room» + counted
   pub units-room : units ≡ h .«unit_room»
   pub uses-room : uses ≡ h .«unit_room»
   pub tracked-held : h .tracked ≤ h .«unit_room»

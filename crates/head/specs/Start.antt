@@ -62,4 +62,4 @@ start-ends b h g = record { answer = b; head = h; hist = g }
 -- THE START: no record is written; a refused one leaves the head that was
 unfoldable pub start : Shedder → ℕ → ℕ → ℕ → ℕ → Hist → List ℕ → List ℕ → Beginning
 start h tags units uses counted g rate ceiling =
-    choose (eqb (start-asked rate tags units uses counted) 0) (start-ends begin.Started (opening rate ceiling tags counted) wants.cleared) (start-ends (begin.Refused (start-asked rate tags units uses counted)) h g)
+    choose (eqb (start-asked rate tags units uses counted) 0) (start-ends begin.Started (opening rate ceiling units counted) wants.cleared) (start-ends (begin.Refused (start-asked rate tags units uses counted)) h g)

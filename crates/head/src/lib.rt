@@ -265,11 +265,21 @@ pub fn head_whole(h: Shedder) -> bool
     both(both(rates, stamps), both(tables, rooms))
 }
 
+// A tag for each record, those of the counted records behind those of the unit records.
+fn tags_whole(tags: usize, units: usize, counted: usize) -> bool
+    ensures { λ r. ⌜ r ≡ asked.tags-whole tags units counted ⌝ }
+{
+    if tags < units {
+        return false;
+    }
+    tags - units == counted
+}
+
 // Question 4.
 pub fn memory_whole(h: Shedder, tags: usize, units: usize, uses: usize, counted: usize) -> bool
     ensures { λ r. ⌜ r ≡ asked.memory-whole h tags units uses counted ⌝ }
 {
-    if tags == h.unit_room {
+    if tags_whole(tags, units, counted) {
         if units == h.unit_room {
             if uses == h.unit_room {
                 return counted == h.counted_room;
@@ -283,9 +293,9 @@ pub fn memory_whole(h: Shedder, tags: usize, units: usize, uses: usize, counted:
 fn sizes_whole(tags: usize, units: usize, uses: usize, counted: usize) -> bool
     ensures { λ r. ⌜ r ≡ asked.sizes-whole tags units uses counted ⌝ }
 {
-    if units == tags {
-        if uses == tags {
-            return rooms_whole(tags, counted, 0, 0);
+    if tags_whole(tags, units, counted) {
+        if uses == units {
+            return rooms_whole(units, counted, 0, 0);
         }
     }
     false
@@ -452,7 +462,7 @@ pub fn start(
         };
     }
     wants::clear(counts, sums);
-    let h = opening(rate, ceiling, tags.len(), counted.len());
+    let h = opening(rate, ceiling, units.len(), counted.len());
     Starting {
         answer: Begin::Started,
         head: h,

@@ -131,7 +131,7 @@ fn judged(
     cost: [f64; DIMS],
     clock: u64,
 ) -> Passed
-    requires { ⌜ length (now tags) ≡ head .«unit_room» ⌝ }
+    requires { ⌜ head .«unit_room» ≤ length (now tags) ⌝ }
     requires { ⌜ length (now units) ≡ head .«unit_room» ⌝ }
     requires { ⌜ length (now uses) ≡ head .«unit_room» ⌝ }
     requires { ⌜ head .tracked ≤ head .«unit_room» ⌝ }

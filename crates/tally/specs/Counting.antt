@@ -1,11 +1,11 @@
 -- The counts of cuts: batches and receptions by cause, and the sources. Definitions only.
 use Prim.Native.Nat.{ℕ, _+_, _^_, _%_}
-use mathlib.Core.List.{List}
-use lib.ListN.{getD, set}
+use mathlib.Core.List.{List, _++_}
+use lib.ListN.{getD, set, take, drop}
 use Rattle.verdict.specs.Verdict.{is-admitted}
 use Rattle.verdict.specs.declared.Verdict.{Verdict}
 use Rattle.verdict.specs.declared.Verdict.the-variants as verdict
-use Rattle.sender.specs.declared.Words.{Words}
+use Rattle.sender.specs.declared.Name.{Name}
 use Rattle.counted.specs.Counted as counts
 use Rattle.head.specs.declared.Shedder.{Shedder}
 use Rattle.head.specs.Numbers.{choose}
@@ -36,20 +36,29 @@ added h n cause receptions = record {
   «counted_room» = h .«counted_room»;
 }
 
+-- the head, the tags of all records, and the rows of the counted sources
 pub record Tally : Type 0 where
   pub head : Shedder
+  pub tags : List ℕ
   pub counted : List (List ℕ)
 
-abbrev pub tally : Shedder → List (List ℕ) → Tally
-tally h rows = record { head = h; counted = rows }
+abbrev pub tally : Shedder → List ℕ → List (List ℕ) → Tally
+tally h tags rows = record { head = h; tags = tags; counted = rows }
 
-abbrev pub tallied-with : Shedder → ℕ → ℕ → counts.Sources → Tally
-tallied-with h cause receptions n = tally (added h (n .count) cause receptions) (n .rows)
+-- the tags of the counted sources stand behind those of the unit records, which stay
+abbrev pub source-tags : Tally → List ℕ
+source-tags t = drop (t .head .«unit_room») (t .tags)
+
+abbrev pub tallied-with : Tally → ℕ → ℕ → List ℕ → counts.Sources → Tally
+tallied-with t cause receptions tags n =
+    tally (added (t .head) (counts.pruned n .count) cause receptions) (take (t .head .«unit_room») (t .tags) ++ counts.pruned-tags n tags) (counts.pruned n .rows)
 
 -- a cut is counted under the unit named; then the least counted go where the spare row was taken
-unfoldable pub tallied : Tally → Words → ℕ → ℕ → Tally
-tallied t w cause receptions = tallied-with (t .head) cause receptions (counts.pruned (counts.count (t .counted) (t .head .counted) w cause))
+unfoldable pub tallied : Tally → Name → ℕ → ℕ → Tally
+tallied t name cause receptions =
+    tallied-with t cause receptions (counts.count-tags (source-tags t) (t .counted) (t .head .counted) name)
+    (counts.count (source-tags t) (t .counted) (t .head .counted) name cause)
 
 -- a verdict that cuts is counted
-unfoldable pub told : Tally → Words → Verdict → List ℕ → Tally
-told t w v cost = choose (is-admitted v) t (tallied t w (cause-of v) (getD cost 0 0))
+unfoldable pub told : Tally → Name → Verdict → List ℕ → Tally
+told t name v cost = choose (is-admitted v) t (tallied t name (cause-of v) (getD cost 0 0))

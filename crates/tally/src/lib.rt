@@ -1,13 +1,13 @@
-// The counts of cuts: by cause in the head, by source in lent rows.
+// The counts of cuts: by cause in the head, by source in lent rows. Behind the tags of the unit records stand those of the sources.
 ghost use mathlib.Core.Path.{_≡_};
-ghost use Prim.Native.Nat.{_<_};
+ghost use Prim.Native.Nat.{_<_, _+_};
 ghost use lib.ListN.{length};
 ghost use Rattle.verdict.specs.Verdict as verdicts;
 ghost use Rattle.tally.specs.Counting as counting;
 use flow::DIMS;
 use head::CAUSES;
 use head::Shedder;
-use sender::Words;
+use sender::Name;
 use verdict::Verdict;
 
 // Whether a verdict admits.
@@ -60,37 +60,42 @@ fn added(h: Shedder, n: usize, cause: usize, receptions: u64) -> Shedder
 // A cut is counted, under the unit named; where the spare row was taken, the least counted go.
 pub fn tallied(
     h: Shedder,
+    tags: &mut [u16],
     counted: &mut [[u64; 8]],
-    w: Words,
+    name: Name,
     cause: usize,
     receptions: u64,
 ) -> Shedder
+    requires { ⌜ h .«unit_room» + h .counted < length (now tags) ⌝ }
     requires { ⌜ h .counted < length (now counted) ⌝ }
     requires { ⌜ cause < 3 ⌝ }
-    ensures { λ r. ⌜ counting.tally r (now (counted .exit)) ≡ counting.tallied (counting.tally h (now (counted .entry))) w cause receptions ⌝ }
+    ensures { λ r. ⌜ counting.tally r (now (tags .exit)) (now (counted .exit)) ≡ counting.tallied (counting.tally h (now (tags .entry)) (now (counted .entry))) name cause receptions ⌝ }
     ensures { λ r. ⌜ r .tracked ≡ h .tracked ⌝ }
     ensures { λ r. ⌜ r .scan ≡ h .scan ⌝ }
 {
-    let n = counted::count(counted, h.counted, w, cause);
-    let kept = counted::pruned(counted, n);
+    let room = h.unit_room;
+    let n = counted::count(&mut tags[room..], counted, h.counted, name, cause);
+    let kept = counted::pruned(&mut tags[room..], counted, n);
     added(h, kept, cause, receptions)
 }
 
 // A verdict that cuts is counted.
 pub fn told(
     h: Shedder,
+    tags: &mut [u16],
     counted: &mut [[u64; 8]],
-    w: Words,
+    name: Name,
     verdict: Verdict,
     cost: [u64; DIMS],
 ) -> Shedder
+    requires { ⌜ h .«unit_room» + h .counted < length (now tags) ⌝ }
     requires { ⌜ h .counted < length (now counted) ⌝ }
-    ensures { λ r. ⌜ counting.tally r (now (counted .exit)) ≡ counting.told (counting.tally h (now (counted .entry))) w verdict cost ⌝ }
+    ensures { λ r. ⌜ counting.tally r (now (tags .exit)) (now (counted .exit)) ≡ counting.told (counting.tally h (now (tags .entry)) (now (counted .entry))) name verdict cost ⌝ }
     ensures { λ r. ⌜ r .tracked ≡ h .tracked ⌝ }
     ensures { λ r. ⌜ r .scan ≡ h .scan ⌝ }
 {
     if is_admitted(verdict) {
         return h;
     }
-    tallied(h, counted, w, cause_of(verdict), cost[0])
+    tallied(h, tags, counted, name, cause_of(verdict), cost[0])
 }

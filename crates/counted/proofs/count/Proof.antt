@@ -2,7 +2,7 @@
 use borrow.Author.Needs.{needs}
 use borrow.Author.Tests.{lt-ltb, le-ltb}
 use mathlib.Core.Path.{sym}
-use Rattle.counted.specs.Counted.{count}
+use Rattle.counted.specs.Counted.{count, count-tags}
 use Rattle.counted.proofs.count.Statement.{statement}
 use Rattle.counted.proofs.count.Tie as tie
 
@@ -15,9 +15,21 @@ counted-up-requires c κs = search needs
 same-length : tie.Need-same-length
 same-length c = search needs
 
+same-length-2 : tie.Need-same-length-2
+same-length-2 c = search needs
+
 returns : tie.Need-returns
-unfolding count
-returns c = (simp (sym (c .before .before .before .before .counted-find .ensures), lt-ltb _ _ (c .before .before .before .if1 .taken), c .before .counted-up .ensures), search needs)
+unfolding count count-tags
+returns c = (
+  simp (sym (c .before .before .before .before .counted-find .ensures), lt-ltb _ _ (c .before .before .before .if1 .taken), c .before .counted-up .ensures),
+  (simp (sym (c .before .before .before .before .counted-find .ensures), lt-ltb _ _ (c .before .before .before .if1 .taken)), search needs),
+)
+
+mul-tags : tie.Need-mul-tags
+mul-tags c = search needs
+
+slice-write-tags : tie.Need-slice-write-tags
+slice-write-tags c = search needs
 
 counted-add-requires : tie.Need-counted-add-requires
 counted-add-requires c κs = search needs
@@ -28,12 +40,18 @@ counted-up-requires-2 c κs = search needs
 add-result : tie.Need-add-result
 add-result c = search needs
 
-same-length-2 : tie.Need-same-length-2
-same-length-2 c = search needs
+same-length-3 : tie.Need-same-length-3
+same-length-3 c = search needs
+
+same-length-4 : tie.Need-same-length-4
+same-length-4 c = search needs
 
 returns-2 : tie.Need-returns-2
-unfolding count
-returns-2 c = (simp (sym (c .before .before .before .before .before .before .before .counted-find .ensures), le-ltb _ _ (c .before .before .before .before .before .before .if1 .left), c .before .counted-up2 .ensures, c .before .before .before .before .counted-add .ensures), search needs)
+unfolding count count-tags
+returns-2 c = (
+  simp (sym (c .before .before .before .before .before .before .before .before .counted-find .ensures), le-ltb _ _ (c .before .before .before .before .before .before .before .if1 .left), c .before .counted-up2 .ensures, c .before .before .before .before .counted-add .ensures),
+  (simp (sym (c .before .before .before .before .before .before .before .before .counted-find .ensures), le-ltb _ _ (c .before .before .before .before .before .before .before .if1 .left)), search needs),
+)
 
 pub count-spec : {M : Type 1} → statement M
 count-spec =
@@ -42,9 +60,13 @@ count-spec =
     counted-find-requires
     counted-up-requires
     same-length
+    same-length-2
     returns
+    mul-tags
+    slice-write-tags
     counted-add-requires
     counted-up-requires-2
     add-result
-    same-length-2
+    same-length-3
+    same-length-4
     returns-2)

@@ -4,19 +4,22 @@ use borrow.Author.Needs.{needs}
 use lib.ListN.{length}
 use mathlib.Core.Path.{_≡_, refl, sym, ap, _∙_}
 use native.Mathlib.Omega.{arith}
-use Rattle.counted.specs.Counted.{Sources, sources, prune, prune-one}
+use Rattle.counted.specs.Counted.{Sources, sources, prune, prune-one, prune-tags}
 use Rattle.counted.proofs.Pruning.{prune-none, prune-next}
+use Rattle.counted.proofs.Tagged.{prune-tags-none, step-tags}
 use Rattle.counted.proofs.prune.Statement.{statement}
 use Rattle.counted.proofs.prune.Tie as tie
 
 abbrev Inv-loop : tie.InvT-loop
-Inv-loop counted₀ n k i₀ j₀ counted i j = (i ≤ n) × (j ≤ i) × (n ≤ length counted) × (length counted ≡ length counted₀) × (sources j counted ≡ prune counted₀ k i)
+Inv-loop tags₀ counted₀ n k i₀ j₀ tags counted i j =
+    (i ≤ n) × (j ≤ i) × (n ≤ length counted) × (length counted ≡ length counted₀) × (sources j counted ≡ prune counted₀ k i)
+    × (n ≤ length tags) × (length tags ≡ length tags₀) × (tags ≡ prune-tags tags₀ counted₀ k i)
 
 abbrev μ-loop : tie.MeasureT-loop
-μ-loop counted₀ n k i₀ j₀ counted i j = n - i
+μ-loop tags₀ counted₀ n k i₀ j₀ tags counted i j = n - i
 
 loop-holds : tie.Need-loop-holds Inv-loop μ-loop
-loop-holds c = (search needs, search needs, search needs, refl, sym (prune-none _ _))
+loop-holds c = (search needs, search needs, search needs, refl, sym (prune-none _ _), search needs, refl, sym (prune-tags-none _ _ _))
 
 prune-one-requires : tie.Need-prune-one-requires Inv-loop μ-loop
 prune-one-requires c κs = search needs
@@ -28,13 +31,25 @@ loop-less : tie.Need-loop-less Inv-loop μ-loop
 loop-less c = search needs
 
 loop-again : tie.Need-loop-again Inv-loop μ-loop
-loop-again c = (search needs, search needs, omega (arith, c .before .prune-one .kept .0), c .before .prune-one .kept .0 ∙ c .before .before .before .before .loop .inv .3, c .before .prune-one .ensures .0 ∙ ap (λ (s : Sources). prune-one s (c .before .before .before .before .before .args .k) (c .before .before .before .before .loop .i)) (c .before .before .before .before .loop .inv .4) ∙ sym (prune-next _ _ _ (omega (arith, c .before .before .before .before .loop .inv .3))))
+loop-again c = (
+  search needs,
+  search needs,
+  omega (arith, c .before .before .before .prune-one .kept .1 .0),
+  c .before .before .before .prune-one .kept .1 .0 ∙ c .before .before .before .before .before .before .before .loop .inv .3,
+  c .before .before .before .prune-one .ensures .0 ∙ ap (λ (s : Sources). prune-one s (c .before .before .before .before .before .before .before .before .before .args .k) (c .before .before .before .before .before .before .before .loop .i)) (c .before .before .before .before .before .before .before .loop .inv .4) ∙ sym (prune-next _ _ _ (omega (arith, c .before .before .before .before .before .before .before .loop .inv .3))),
+  omega (arith, c .before .before .before .prune-one .kept .0),
+  c .before .before .before .prune-one .kept .0 ∙ c .before .before .before .before .before .before .before .loop .inv .6,
+  step-tags _ _ _ _ _ _ _ _ (c .before .before .before .before .before .before .before .loop .inv .4) (c .before .before .before .before .before .before .before .loop .inv .7) (c .before .before .before .prune-one .ensures .1 .0),
+)
 
 same-length : tie.Need-same-length Inv-loop μ-loop
-same-length c = c .before .loop .inv .3
+same-length c = c .before .loop .inv .6
+
+same-length-2 : tie.Need-same-length-2 Inv-loop μ-loop
+same-length-2 c = c .before .loop .inv .3
 
 returns : tie.Need-returns Inv-loop μ-loop
-returns c = let e : c .before .loop .i ≡ c .before .before .args .n = omega arith in (rw e at (c .before .loop .inv .4), search needs)
+returns c = let e : c .before .loop .i ≡ c .before .before .before .args .n = omega arith in (rw e at (c .before .loop .inv .4), (rw e at (c .before .loop .inv .7), search needs))
 
 pub prune-spec : {M : Type 1} → statement M
 prune-spec =
@@ -48,4 +63,5 @@ prune-spec =
     loop-less
     loop-again
     same-length
+    same-length-2
     returns)

@@ -1,23 +1,28 @@
 use Rattle.head.specs.Questions.{memory-whole}
+use mathlib.Core.Path.{sym}
 use borrow.Author.Tests.{eq-eqb, ne-eqb}
+use borrow.Author.Needs.{needs}
 use Rattle.head.proofs.memory_whole.Statement.{statement}
 use Rattle.head.proofs.memory_whole.Tie as tie
 
+tags-whole-requires : tie.Need-tags-whole-requires
+tags-whole-requires c κs = search needs
+
 returns : tie.Need-returns
 unfolding memory-whole
-returns c = simp (eq-eqb _ _ (c .before .before .before .before .before .if1 .taken), eq-eqb _ _ (c .before .before .before .if2 .taken), eq-eqb _ _ (c .before .if3 .taken))
+returns c = simp (sym (c .before .before .before .before .before .before .tags-whole .ensures), c .before .before .before .before .before .if1 .taken, eq-eqb _ _ (c .before .before .before .if2 .taken), eq-eqb _ _ (c .before .if3 .taken))
 
 returns-2 : tie.Need-returns-2
 unfolding memory-whole
-returns-2 c = simp (eq-eqb _ _ (c .before .before .before .before .if1 .taken), eq-eqb _ _ (c .before .before .if2 .taken), ne-eqb _ _ (c .if3 .left))
+returns-2 c = simp (sym (c .before .before .before .before .before .tags-whole .ensures), c .before .before .before .before .if1 .taken, eq-eqb _ _ (c .before .before .if2 .taken), ne-eqb _ _ (c .if3 .left))
 
 returns-3 : tie.Need-returns-3
 unfolding memory-whole
-returns-3 c = simp (eq-eqb _ _ (c .before .before .if1 .taken), ne-eqb _ _ (c .if2 .left))
+returns-3 c = simp (sym (c .before .before .before .tags-whole .ensures), c .before .before .if1 .taken, ne-eqb _ _ (c .if2 .left))
 
 returns-4 : tie.Need-returns-4
 unfolding memory-whole
-returns-4 c = simp (ne-eqb _ _ (c .if1 .left))
+returns-4 c = simp (sym (c .before .tags-whole .ensures), c .if1 .left)
 
 pub memory-whole-spec : {M : Type 1} → statement M
-memory-whole-spec = tie.close (tie.spec returns returns-2 returns-3 returns-4)
+memory-whole-spec = tie.close (tie.spec tags-whole-requires returns returns-2 returns-3 returns-4)

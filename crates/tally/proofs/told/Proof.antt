@@ -23,9 +23,12 @@ tallied-requires c κs = search needs
 same-length : tie.Need-same-length
 same-length c = search needs
 
+same-length-2 : tie.Need-same-length-2
+same-length-2 c = search needs
+
 returns-2 : tie.Need-returns-2
 unfolding told
-returns-2 c = (simp (sym (c .before .before .before .before .before .is-admitted .ensures), c .before .before .before .before .if1 .left, sym (c .before .before .cause-of .ensures .0)) (c .before .tallied .ensures .0), c .before .tallied .ensures .1)
+returns-2 c = (simp (sym (c .before .before .before .before .before .before .before .before .is-admitted .ensures), c .before .before .before .before .before .before .before .if1 .left, sym (c .before .before .before .before .cause-of .ensures .0)) (c .before .before .before .tallied .ensures .0), c .before .before .before .tallied .ensures .1)
 
 pub told-spec : {M : Type 1} → statement M
 told-spec =
@@ -37,4 +40,5 @@ told-spec =
     array-read-tallied
     tallied-requires
     same-length
+    same-length-2
     returns-2)
