@@ -10,7 +10,7 @@ use Rattle.ieee.specs.Extremes.{most}
 use Rattle.flow.specs.Flow as flow
 use Rattle.flow.specs.Flow.{nothing, at, upto, zeros}
 use Rattle.sender.specs.declared.Unit as unit
-use Rattle.sender.specs.declared.Words.{Words}
+use Rattle.sender.specs.declared.Name.{Name}
 use Rattle.sender.specs.Sender as sender
 use Rattle.store.specs.Store.{Rows, rows}
 use Rattle.head.specs.declared.Flow.{Flow}
@@ -69,27 +69,28 @@ cutting c m k = record { answer = c .answer; head = c .head; rows = m; counted =
 abbrev pub cut-ends : Done → Shedder → Rows → List (List ℕ) → Cut
 cut-ends a h m k = record { answer = a; head = h; rows = m; counted = k }
 
--- an answer, the head and the counted records
+-- an answer, the head, the tags of all records and the counted records
 pub record Noted : Type 0 where
   pub answer : Done
   pub head : Shedder
+  pub tags : List ℕ
   pub counted : List (List ℕ)
 
-abbrev pub noting : Cutting → List (List ℕ) → Noted
-noting c k = record { answer = c .answer; head = c .head; counted = k }
+abbrev pub noting : Cutting → List ℕ → List (List ℕ) → Noted
+noting c tags k = record { answer = c .answer; head = c .head; tags = tags; counted = k }
 
 abbrev pub noted-as : Tally → Noted
-noted-as t = record { answer = done.Counted; head = t .head; counted = t .counted }
+noted-as t = record { answer = done.Counted; head = t .head; tags = t .tags; counted = t .counted }
 
 -- the cut counted, under the unit named
-unfoldable pub noted : Tally → Words → Cause → List ℕ → Noted
-noted t w c cost = noted-as (tallied t w (index-of c) (getD cost 0 0))
+unfoldable pub noted : Tally → Name → Cause → List ℕ → Noted
+noted t name c cost = noted-as (tallied t name (index-of c) (getD cost 0 0))
 
 abbrev pub cut-noted : Rows → Noted → Cut
-cut-noted m n = cut-ends (n .answer) (n .head) m (n .counted)
+cut-noted m n = cut-ends (n .answer) (n .head) (rows (n .tags) (m .units) (m .uses)) (n .counted)
 
 abbrev pub cut-after : List (List ℕ) → unit.Unit → Cause → List ℕ → KeptBy → Cut
-cut-after k u c cost s = cut-noted (s .rows) (noted (tally (s .head) k) (sender.words-of u) c cost)
+cut-after k u c cost s = cut-noted (s .rows) (noted (tally (s .head) (s .rows .tags) k) (sender.name-of u) c cost)
 
 -- THE CUT: the first question answered no gives its number and nothing changes; question 9 is asked where a record is sought
 unfoldable pub cut : Shedder → Rows → List (List ℕ) → unit.Unit → Cause → List ℕ → Cut

@@ -15,7 +15,6 @@ use head::Flow;
 use head::Shedder;
 use sender::Name;
 use sender::Unit;
-use sender::Words;
 
 // What a cut answers, and the head after it.
 pub struct Cutting {
@@ -76,7 +75,7 @@ fn handed_back(
     i: usize,
     cost: [f64; DIMS],
 ) -> Shedder
-    requires { ⌜ length (now tags) ≡ head .«unit_room» ⌝ }
+    requires { ⌜ head .«unit_room» ≤ length (now tags) ⌝ }
     requires { ⌜ length (now units) ≡ head .«unit_room» ⌝ }
     requires { ⌜ length (now uses) ≡ head .«unit_room» ⌝ }
     requires { ⌜ head .tracked ≤ head .«unit_room» ⌝ }
@@ -84,6 +83,7 @@ fn handed_back(
     requires { ⌜ i ≡ store.find (now tags) (now units) name (head .tracked) ⌝ }
     ensures { λ r. ⌜ cutting.kept-by r (store.rows (now (tags .exit)) (now (units .exit)) (now (uses .exit))) ≡ cutting.handed-back (cutting.kept-by head (store.rows (now (tags .entry)) (now (units .entry)) (now (uses .entry)))) unit cost ⌝ }
     ensures { λ r. ⌜ r .counted ≡ head .counted ⌝ }
+    ensures { λ r. ⌜ r .«unit_room» ≡ head .«unit_room» ⌝ }
 {
     let f = head.flow;
     let room = head.unit_room;
@@ -114,16 +114,18 @@ fn handed_back(
 // The cut is counted, and is then done.
 fn noted(
     head: Shedder,
+    tags: &mut [u16],
     counted: &mut [[u64; 8]],
-    w: Words,
+    name: Name,
     cause: Cause,
     cost: [u64; DIMS],
 ) -> Cutting
+    requires { ⌜ head .«unit_room» + head .counted < length (now tags) ⌝ }
     requires { ⌜ head .counted < length (now counted) ⌝ }
-    ensures { λ r. ⌜ cutting.noting r (now (counted .exit)) ≡ cutting.noted (counting.tally head (now (counted .entry))) w cause cost ⌝ }
+    ensures { λ r. ⌜ cutting.noting r (now (tags .exit)) (now (counted .exit)) ≡ cutting.noted (counting.tally head (now (tags .entry)) (now (counted .entry))) name cause cost ⌝ }
     ensures { λ r. ⌜ answers.cut-number (r .answer) ≡ 0 ⌝ }
 {
-    let t = tally::tallied(head, counted, w, head::index_of(cause), cost[0]);
+    let t = tally::tallied(head, tags, counted, name, head::index_of(cause), cost[0]);
     Cutting {
         answer: Done::Counted,
         head: t,
@@ -160,8 +162,8 @@ pub fn cut(
     }
     let f = head.flow;
     let rate = f.rate;
+    let name = sender::name_of(unit);
     if hands_back(rate, cause) {
-        let name = sender::name_of(unit);
         let i = search::find(tags, units, head.tracked, name);
         if entry::is_misplaced(tags, units, head.tracked, name, i) {
             return Cutting {
@@ -179,8 +181,7 @@ pub fn cut(
             i,
             flow::numbers(cost),
         );
-        let w = name.words;
-        return noted(h, counted, w, cause, cost);
+        return noted(h, tags, counted, name, cause, cost);
     }
-    noted(head, counted, sender::words_of(unit), cause, cost)
+    noted(head, tags, counted, name, cause, cost)
 }

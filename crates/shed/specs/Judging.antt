@@ -114,11 +114,11 @@ bounded-scanned a counted s = judge-ends a (s .head) (memory (s .rows) (s .hist)
 
 -- the scan, once the cut was counted
 abbrev pub bounded-told : Hist → ℕ → Through → Tally → Judged
-bounded-told g clock p t = bounded-scanned (answer-of (p .verdict)) (t .counted) (scanned (scanning (t .head) (p .rows) g) clock)
+bounded-told g clock p t = bounded-scanned (answer-of (p .verdict)) (t .counted) (scanned (scanning (t .head) (rows (t .tags) (p .rows .units) (p .rows .uses)) g) clock)
 
 -- the count, under the unit named, once the verdict is there
 abbrev pub bounded-passed : Memory → unit.Unit → List ℕ → ℕ → Through → Judged
-bounded-passed m u cost clock p = bounded-told (m .hist) clock p (told (tally (p .head) (m .counted)) (sender.words-of u) (p .verdict) cost)
+bounded-passed m u cost clock p = bounded-told (m .hist) clock p (told (tally (p .head) (p .rows .tags) (m .counted)) (sender.name-of u) (p .verdict) cost)
 
 -- a judgement of a bounded relay: the clock is the later of stamp and clock; verdict, count and scan follow
 unfoldable pub bounded : Shedder → Memory → unit.Unit → List ℕ → ℕ → Judged

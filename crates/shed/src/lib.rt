@@ -142,6 +142,7 @@ fn judged(
     ensures { λ r. ⌜ judging.passed r (store.rows (now (tags .exit)) (now (units .exit)) (now (uses .exit))) ≡ judging.judged head (store.rows (now (tags .entry)) (now (units .entry)) (now (uses .entry))) unit cost clock ⌝ }
     ensures { λ r. ⌜ r .head .tracked ≤ head .«unit_room» ⌝ }
     ensures { λ r. ⌜ r .head .counted ≡ head .counted ⌝ }
+    ensures { λ r. ⌜ r .head .«unit_room» ≡ head .«unit_room» ⌝ }
     ensures { λ r. ⌜ r .head .scan ≡ head .scan ⌝ }
 {
     let f = head.flow;
@@ -224,8 +225,7 @@ fn bounded(
     );
     let h = p.head;
     let verdict = p.verdict;
-    let w = name.words;
-    let t = tally::told(h, counted, w, verdict, cost);
+    let t = tally::told(h, tags, counted, name, verdict, cost);
     let s = scan::scanned(t, tags, units, uses, counts, sums, clock);
     let answer = answer_of(verdict);
     Judgement { answer, head: s }

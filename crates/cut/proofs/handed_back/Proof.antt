@@ -29,7 +29,7 @@ same-length-3 : tie.Need-same-length-3
 same-length-3 c = c .before .before .before .put-back .kept .1 .0 ∙ c .before .before .before .before .before .before .before .before .before .before .before .before .before .before .entry .kept .1 .1 .0
 
 returns : tie.Need-returns
-returns c = (handed-is (c .before .before .before .before .before .before .before .before .before .before .before .before .before .before .before .before .before .before .before .before .before .args .head) _ (c .before .before .before .before .before .before .before .before .before .before .before .before .before .before .before .before .before .before .before .before .before .args .unit) (c .before .before .before .before .before .before .before .before .before .before .before .before .before .before .before .before .before .before .before .before .before .args .cost) (c .before .before .before .before .before .before .before .before .before .before .before .before .before .before .entry .result) _ _ _ _ _ (c .before .before .before .before .before .before .before .used-at .result) (c .before .before .before .before .before .before .handed-back .result) (c .before .before .before .put-back .result) (c .flowed-back .result) (c .before .before .before .before .before .before .before .before .before .before .before .before .before .before .entry .ensures .0) (c .before .before .before .before .before .before .before .used-at .ensures) (c .before .before .before .before .before .before .handed-back .ensures) (c .before .before .before .put-back .ensures) (c .flowed-back .ensures), refl)
+returns c = (handed-is (c .before .before .before .before .before .before .before .before .before .before .before .before .before .before .before .before .before .before .before .before .before .args .head) _ (c .before .before .before .before .before .before .before .before .before .before .before .before .before .before .before .before .before .before .before .before .before .args .unit) (c .before .before .before .before .before .before .before .before .before .before .before .before .before .before .before .before .before .before .before .before .before .args .cost) (c .before .before .before .before .before .before .before .before .before .before .before .before .before .before .entry .result) _ _ _ _ _ (c .before .before .before .before .before .before .before .used-at .result) (c .before .before .before .before .before .before .handed-back .result) (c .before .before .before .put-back .result) (c .flowed-back .result) (c .before .before .before .before .before .before .before .before .before .before .before .before .before .before .entry .ensures .0) (c .before .before .before .before .before .before .before .used-at .ensures) (c .before .before .before .before .before .before .handed-back .ensures) (c .before .before .before .put-back .ensures) (c .flowed-back .ensures), (refl, refl))
 
 pub handed-back-spec : {M : Type 1} → statement M
 handed-back-spec =

@@ -1,5 +1,5 @@
 use Rattle.head.proofs.Asked.{asked-ready}
-use Rattle.head.proofs.Bounds.{le-to}
+use Rattle.head.proofs.Bounds.{le-to, le-within}
 use Rattle.head.specs.Answers.{judge-number}
 use Rattle.sender.specs.Sender.{name-by-hash}
 use Rattle.shed.specs.Judging.{judge}
@@ -32,10 +32,10 @@ name-by-hash-requires : tie.Need-name-by-hash-requires
 name-by-hash-requires c κs = search needs
 
 find-requires : tie.Need-find-requires
-find-requires c κs = let w = asked-ready (c .before .before .before .before .before .before .before .before .before .before .before .args .head) _ _ _ _ (c .before .before .before .before .before .before .before .before .before .before .before .args .cost) (c .before .before .before .before .before .before .before .before .before .before .before .args .stamp) (sym (c .before .before .before .before .before .before .before .before .before .judge-asked .ensures) ∙ c .before .before .before .before .before .before .before .before .if1 .left) in (le-to (w .tracked-held) (w .tags-room), le-to (w .tracked-held) (w .units-room))
+find-requires c κs = let w = asked-ready (c .before .before .before .before .before .before .before .before .before .before .before .args .head) _ _ _ _ (c .before .before .before .before .before .before .before .before .before .before .before .args .cost) (c .before .before .before .before .before .before .before .before .before .before .before .args .stamp) (sym (c .before .before .before .before .before .before .before .before .before .judge-asked .ensures) ∙ c .before .before .before .before .before .before .before .before .if1 .left) in (le-within _ (w .tracked-held) (w .tags-room), le-to (w .tracked-held) (w .units-room))
 
 is-misplaced-requires : tie.Need-is-misplaced-requires
-is-misplaced-requires c κs = let w = asked-ready (c .before .before .before .before .before .before .before .before .before .before .before .before .before .before .args .head) _ _ _ _ (c .before .before .before .before .before .before .before .before .before .before .before .before .before .before .args .cost) (c .before .before .before .before .before .before .before .before .before .before .before .before .before .before .args .stamp) (sym (c .before .before .before .before .before .before .before .before .before .before .before .before .judge-asked .ensures) ∙ c .before .before .before .before .before .before .before .before .before .before .before .if1 .left) in (le-to (w .tracked-held) (w .tags-room), (le-to (w .tracked-held) (w .units-room), c .before .before .find .ensures))
+is-misplaced-requires c κs = let w = asked-ready (c .before .before .before .before .before .before .before .before .before .before .before .before .before .before .args .head) _ _ _ _ (c .before .before .before .before .before .before .before .before .before .before .before .before .before .before .args .cost) (c .before .before .before .before .before .before .before .before .before .before .before .before .before .before .args .stamp) (sym (c .before .before .before .before .before .before .before .before .before .before .before .before .judge-asked .ensures) ∙ c .before .before .before .before .before .before .before .before .before .before .before .if1 .left) in (le-within _ (w .tracked-held) (w .tags-room), (le-to (w .tracked-held) (w .units-room), c .before .before .find .ensures))
 
 same-length : tie.Need-same-length
 same-length c = search needs

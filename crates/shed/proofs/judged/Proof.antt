@@ -32,7 +32,7 @@ same-length-3 : tie.Need-same-length-3
 same-length-3 c = c .before .before .before .put-back .kept .1 .0 ∙ c .before .before .before .before .before .before .before .before .before .before .before .before .before .before .before .before .entry .kept .1 .1 .0
 
 returns : tie.Need-returns
-returns c = (judged-is (c .before .before .before .before .before .before .before .before .before .before .before .before .before .before .before .before .before .before .before .before .before .before .before .before .args .head) _ (c .before .before .before .before .before .before .before .before .before .before .before .before .before .before .before .before .before .before .before .before .before .before .before .before .args .unit) (c .before .before .before .before .before .before .before .before .before .before .before .before .before .before .before .before .before .before .before .before .before .before .before .before .args .hash) (c .before .before .before .before .before .before .before .before .before .before .before .before .before .before .before .before .before .before .before .before .before .before .before .before .args .cost) (c .before .before .before .before .before .before .before .before .before .before .before .before .before .before .before .before .before .before .before .before .before .before .before .before .args .clock) (c .before .before .before .before .before .before .before .before .before .before .before .before .before .before .before .before .entry .result) _ _ _ _ _ (c .before .before .before .before .before .before .before .before .before .used-at .result) (c .before .before .before .put-back .result) (c .before .before .before .before .before .before .before .before .rank-at .result) (c .before .before .before .before .before .before .before .outcome .result) (c .flowed .result) (c .before .before .before .before .before .before .before .before .before .before .before .before .before .before .before .before .before .before .before .before .before .before .before .before .pre .1 .1 .1 .1 .1 .1 .1) (c .before .before .before .before .before .before .before .before .before .before .before .before .before .before .before .before .entry .ensures .0) (c .before .before .before .before .before .before .before .before .before .used-at .ensures) (c .before .before .before .before .before .before .before .before .rank-at .ensures) (c .before .before .before .before .before .before .before .outcome .ensures) (c .before .before .before .put-back .ensures) (c .flowed .ensures), (c .before .before .before .before .before .before .before .before .before .before .before .before .before .before .before .before .entry .ensures .1, (refl, refl)))
+returns c = (judged-is (c .before .before .before .before .before .before .before .before .before .before .before .before .before .before .before .before .before .before .before .before .before .before .before .before .args .head) _ (c .before .before .before .before .before .before .before .before .before .before .before .before .before .before .before .before .before .before .before .before .before .before .before .before .args .unit) (c .before .before .before .before .before .before .before .before .before .before .before .before .before .before .before .before .before .before .before .before .before .before .before .before .args .hash) (c .before .before .before .before .before .before .before .before .before .before .before .before .before .before .before .before .before .before .before .before .before .before .before .before .args .cost) (c .before .before .before .before .before .before .before .before .before .before .before .before .before .before .before .before .before .before .before .before .before .before .before .before .args .clock) (c .before .before .before .before .before .before .before .before .before .before .before .before .before .before .before .before .entry .result) _ _ _ _ _ (c .before .before .before .before .before .before .before .before .before .used-at .result) (c .before .before .before .put-back .result) (c .before .before .before .before .before .before .before .before .rank-at .result) (c .before .before .before .before .before .before .before .outcome .result) (c .flowed .result) (c .before .before .before .before .before .before .before .before .before .before .before .before .before .before .before .before .before .before .before .before .before .before .before .before .pre .1 .1 .1 .1 .1 .1 .1) (c .before .before .before .before .before .before .before .before .before .before .before .before .before .before .before .before .entry .ensures .0) (c .before .before .before .before .before .before .before .before .before .used-at .ensures) (c .before .before .before .before .before .before .before .before .rank-at .ensures) (c .before .before .before .before .before .before .before .outcome .ensures) (c .before .before .before .put-back .ensures) (c .flowed .ensures), (c .before .before .before .before .before .before .before .before .before .before .before .before .before .before .before .before .entry .ensures .1, (refl, (refl, refl))))
 
 pub judged-spec : {M : Type 1} → statement M
 judged-spec =
