@@ -1,6 +1,6 @@
 // A cut made elsewhere: the head by value, the records lent.
 ghost use mathlib.Core.Path.{_≡_};
-ghost use Prim.Native.Nat.{_<_, _≤_};
+ghost use Prim.Native.Nat.{_<_, _≤_, _+_};
 ghost use lib.ListN.{length};
 ghost use Rattle.sender.specs.Sender as sender;
 ghost use Rattle.store.specs.Store as store;
