@@ -1,29 +1,16 @@
--- The table LEAST of src/bucket.rt, and its rule at every entry, by one test that antt computes. Assumes nothing.
-use mathlib.Core.Path.{_≡_, sym, subst}
-use mathlib.Core.Logic.{inl, inr}
-use mathlib.Core.Bool.{Bool, true, _&&_}
+-- The thresholds of `least` in src/bucket.rt, and their rule at every entry, by one test that antt computes. Assumes nothing.
+use mathlib.Core.Path.{_≡_}
+use mathlib.Core.Bool.{Bool, _&&_}
 use mathlib.Core.List.{List, [], _∷_}
 use Prim.Native.Nat.{ℕ, zero, suc, _+_, _-_, _^_, _≤_, _<_}
-use native.Mathlib.Nat.{le-trans, lt-of-le-of-lt, le-of-suc-le-suc, not-suc-le-zero, eq-or-lt-of-le, pow-le-pow-left, pow-lt-pow-left}
+use native.Mathlib.Nat.{le-trans, lt-of-le-of-lt, lt-of-lt-of-le, not-le-of-lt, pow-le-pow-left, pow-lt-pow-left}
 use native.Mathlib.Omega.{arith}
-use native.Mathlib.Decide.{decLe}
-use lib.Dec.{T, leb, ltb, leb→le, ltb→lt}
+use lib.Dec.{T, leb, ltb, leb→le, ltb→lt, lit<}
 use lib.ListN.{getD}
+use lib.Pow.{pow-mono}
 use lib.Ieee.Fits.{and-l, and-r}
-use Rattle.wants.specs.Bucket.{From, Under, Sixteenth}
-
--- ---- a test that passes at each place below n
-upto : (ℕ → Bool) → ℕ → Bool
-upto f zero = true
-upto f (suc n) = f n && upto f n
-
-each : (f : ℕ → Bool) (n : ℕ) → T (upto f n) → (k : ℕ) → k < n → T (f k)
-unfolding upto
-each f zero t k h = absurd (not-suc-le-zero h)
-each f (suc n) t k h = elim (eq-or-lt-of-le (le-of-suc-le-suc h)) [
-  | inl e ↦ subst (λ (i : ℕ). T (f i)) (sym e) (and-l (f n) (upto f n) t)
-  | inr l ↦ each f n (and-r (f n) (upto f n) t) k l
-]
+use Rattle.wants.specs.Bucket.{From, Under, Threshold}
+use Rattle.wants.proofs.Each.{upto, each}
 
 -- ---- the table
 unfoldable pub table : List ℕ
@@ -66,34 +53,30 @@ pub from-first : (s : ℕ) → 2 ^ 52 ≤ s → From 0 s
 unfolding From
 from-first s h = pow-le-pow-left h 16
 
-under-last : (s : ℕ) → s < 2 ^ 53 → Under 16 s
+-- w is 1
+pub under-first : Under 1 (2 ^ 52)
 unfolding Under
-under-last s h = pow-lt-pow-left h (λ (e : 16 ≡ 0). omega arith)
+under-first = lit< tt
 
--- ---- of the entries before j, the last one up to s is that of `part`
-pub record Reached (s part j : ℕ) : Type 0 where
-  pub below : part < j
-  pub most : j ≤ 16
-  pub from : From part s
-  pub under : part + 1 < j → Under (part + 1) s
+-- w is below 2
+pub under-last : (j s : ℕ) → 16 ≤ j → s < 2 ^ 53 → Under j s
+unfolding Under
+under-last j s h l =
+    let top : s ^ 16 < (2 ^ 53) ^ 16 = pow-lt-pow-left l (λ (e : 16 ≡ 0). omega arith) in
+    lt-of-lt-of-le top (pow-mono {i = 848} {j = 832 + j} (omega arith))
 
-module _ (s part j : ℕ) (c : Reached s part j) (h : j < 16) where
-  pub reached-next : getD table j 0 ≤ s → Reached s j (j + 1)
-  reached-next l = record { below = omega arith; most = omega arith; from = from-at j s h l; under = λ u. absurd (omega arith) }
+-- ---- so each arm has its threshold: entry k where j is k, and 2 ^ 53 where j is none of the sixteen
+pub entry : (k j : ℕ) → k < 16 → j ≡ k → Threshold j (getD table k 0)
+entry k j h e = rw e (record { from = λ s u l. from-at k s h l; under = λ s u l. under-at k s h l })
 
-  pub reached-still : s < getD table j 0 → Reached s part (j + 1)
-  reached-still l =
-      record {
-        below = omega (arith, c .below);
-        most = omega arith;
-        from = c .from;
-        under = λ u. elim (decLe j (part + 1)) [ yes a ↦ (let e : part + 1 ≡ j = omega (arith, c .below) in rw e (under-at j s h l)) | no a ↦ c .under (omega arith) ];
-      }
+-- j is none of the numbers below n
+abbrev pub None : ℕ → ℕ → Type 0
+None j zero = Unit
+None j (suc n) = None j n × (j ≡ n → ⊥)
 
-pub ended : (s part j : ℕ) → Reached s part j → 16 ≤ j → s < 2 ^ 53 → Sixteenth s part
-ended s part j c h u =
-    record {
-      within = omega (arith, c .below, c .most);
-      from = c .from;
-      under = elim (decLe 15 part) [ yes a ↦ (let e : part + 1 ≡ 16 = omega (arith, c .below, c .most) in rw e (under-last s u)) | no a ↦ c .under (omega arith) ];
-    }
+not-below : (j n : ℕ) → None j n → n ≤ j
+not-below j zero t = omega arith
+not-below j (suc n) t = omega (arith, not-below j n (t .0), t .1)
+
+pub past : (j : ℕ) → None j 16 → Threshold j (2 ^ 53)
+past j n = record { from = λ s u l. absurd (not-le-of-lt u l); under = λ s u l. under-last j s (not-below j 16 n) u }

@@ -21,6 +21,10 @@ largest (suc b) x = cond (reaches (suc b) x) (suc b) (largest b x)
 unfoldable pub bucket-of : Float → ℕ
 bucket-of want = cond (Ieee.lt one want) (largest 767 want) 0
 
+-- the want, or 1 where it is not above 1 or not-a-number
+unfoldable pub at-least-one : Float → Float
+at-least-one want = cond (Ieee.lt one want) want one
+
 -- ---- within an octave: w = s / 2 ^ 52 lies from 1 to 2, and (2 ^ 52) ^ 16 = 2 ^ 832
 
 -- 2 ^ j ≤ w ^ 16
@@ -36,3 +40,8 @@ pub record Sixteenth (s j : ℕ) : Type 0 where
   pub within : j < 16
   pub from : From j s
   pub under : Under (j + 1) s
+
+-- a significand is at least r exactly where 2 ^ j ≤ w ^ 16
+pub record Threshold (j r : ℕ) : Type 0 where
+  pub from : (s : ℕ) → s < 2 ^ 53 → r ≤ s → From j s
+  pub under : (s : ℕ) → s < 2 ^ 53 → s < r → Under j s
