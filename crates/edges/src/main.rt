@@ -5,11 +5,12 @@ mod steps;
 
 use flow::DIMS;
 use tries::COUNTED;
+use tries::TAGS;
 use tries::UNITS;
 
 fn main() {
     tries::run();
-    let mut tags = [0x0101010101010101u64; UNITS];
+    let mut tags = [0x0101u16; TAGS];
     let unit = [0x0202020202020202u64; 7];
     let mut units = [unit; UNITS];
     let used = [0.3; 2 * DIMS];

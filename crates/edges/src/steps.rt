@@ -4,6 +4,7 @@ use flow::DIMS;
 use head::Shedder;
 use tries::COUNTED;
 use tries::OUT;
+use tries::TAGS;
 use tries::Tried;
 use tries::UNITS;
 
@@ -19,7 +20,7 @@ fn lent(
     counted: &mut [[u64; 8]],
     out: &mut [u8],
 ) -> Tried {
-    let h = tries::digit(row, tries::HASHES, tags.len());
+    let h = tries::digit(row, tries::TAGS_LENT, tags.len());
     let u = tries::digit(row, tries::UNITS_LENT, units.len());
     let s = tries::digit(row, tries::USES, uses.len());
     let k = tries::digit(row, tries::COUNTED_LENT, counted.len());
@@ -41,7 +42,7 @@ fn lent(
 pub fn tried(
     row: usize,
     head: Shedder,
-    tags: &mut [u16; UNITS],
+    tags: &mut [u16; TAGS],
     units: &mut [[u64; 7]; UNITS],
     uses: &mut [[f64; 2 * DIMS]; UNITS],
     counts: &mut [[u32; 768]; DIMS],

@@ -148,5 +148,5 @@ module _ (room : ℕ) where
     pub put-there : record-at (rows (m .tags) (units-put (m .units) i u) (uses-put (m .uses) i u)) i ≡ row (view.name-at (m .tags) (m .units) i) u
     unfolding view.record-at
     put-there =
-        ap (λ (w : Words). row (record { hash = getD (m .tags) i 0; words = w }) (use-at (units-put (m .units) i u) (uses-put (m .uses) i u) i)) words-kept
+        ap (λ (w : Words). row (record { tag = getD (m .tags) i 0; words = w }) (use-at (units-put (m .units) i u) (uses-put (m .uses) i u) i)) words-kept
         ∙ ap (λ (x : Use). row (view.name-at (m .tags) (m .units) i) x) (put-back-read (m .units) (m .uses) i u whole hu hs seven)

@@ -18,7 +18,7 @@ use Rattle.fair.specs.Store as model
 use Rattle.fair.specs.Calls.{same-name}
 
 -- ---- names
--- a unit's hash and words, and whether it is overflow, which goes to overflow's record at once
+-- a unit's tag and words, and whether it is overflow, which goes to overflow's record at once
 pub record Name : Type 0 where
   pub overflow : Bool
   pub name : sender-name.Name
@@ -60,7 +60,7 @@ true-of false t = absurd t
 words-ext : (a b c d e a' b' c' d' e' : ℕ) → a ≡ a' → b ≡ b' → c ≡ c' → d ≡ d' → e ≡ e' → _≡_ {A = Words} (record { kind = a; a = b; b = c; c = d; d = e }) (record { kind = a'; a = b'; b = c'; c = d'; d = e' })
 words-ext a b c d e a' b' c' d' e' p q r s t = cc
 
-pair-ext : (a a' : ℕ) (w w' : Words) → a ≡ a' → w ≡ w' → _≡_ {A = sender-name.Name} (record { hash = a; words = w }) (record { hash = a'; words = w' })
+pair-ext : (a a' : ℕ) (w w' : Words) → a ≡ a' → w ≡ w' → _≡_ {A = sender-name.Name} (record { tag = a; words = w }) (record { tag = a'; words = w' })
 pair-ext a a' w w' p q = cc
 
 name-ext : (a a' : Bool) (w w' : sender-name.Name) → a ≡ a' → w ≡ w' → _≡_ {A = Name} (record { overflow = a; name = w }) (record { overflow = a'; name = w' })
@@ -97,7 +97,7 @@ same-self u = subst T (sym (ap (λ (b : Bool). cond b (same-name (u .name) (u .n
 
 -- the words of a row of the store
 abbrev pub name-at : List ℕ → List (List ℕ) → ℕ → sender-name.Name
-name-at tags units i = record { hash = getD tags i 0; words = store.words-at units i }
+name-at tags units i = record { tag = getD tags i 0; words = store.words-at units i }
 
 -- ---- rows
 module _ (room : ℕ) where

@@ -142,7 +142,7 @@ pub data Key : Type 0 where
   shared : Key
   own : unit.Unit → Key
 
--- the same unit: hash and words
+-- the same unit: tag and words
 abbrev pub same-name : Name → Name → Bool
 same-name v w = cond (eqb (w .tag) (v .tag)) (store.same (w .words) (v .words)) false
 

@@ -12,6 +12,7 @@ use script::Amounts;
 use script::front;
 use trial::COUNTED;
 use trial::REPORT;
+use trial::TAGS;
 use trial::UNITS;
 
 fn of_dims(a: Amounts) -> [u64; DIMS] {
@@ -68,7 +69,7 @@ fn say_reports(
 
 // The shedder's memory, a start, and the list.
 fn run(l: List, rows: &[[u64; 7 + DIMS]; ROWS]) {
-    let mut tags = [0u64; UNITS];
+    let mut tags = [0u16; TAGS];
     let unit = [0u64; 7];
     let mut units = [unit; UNITS];
     let used = [0.0; 2 * DIMS];

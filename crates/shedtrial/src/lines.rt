@@ -6,6 +6,7 @@ use script::FEED;
 use script::LINE;
 use script::front;
 use trial::COUNTED;
+use trial::TAGS;
 use trial::Trial;
 use trial::UNITS;
 
@@ -34,7 +35,7 @@ fn flushed(mut t: Trial, page: &[u8]) -> Trial {
 // Answers the line that is kept.
 fn ended(
     s: Served,
-    tags: &mut [u16; UNITS],
+    tags: &mut [u16; TAGS],
     units: &mut [[u64; 7]; UNITS],
     uses: &mut [[f64; 2 * DIMS]; UNITS],
     counts: &mut [[u32; 768]; DIMS],
@@ -57,7 +58,7 @@ fn ended(
 // Answers each line that ends in a block of the input, and keeps what stands behind the last.
 fn block(
     served: Served,
-    tags: &mut [u16; UNITS],
+    tags: &mut [u16; TAGS],
     units: &mut [[u64; 7]; UNITS],
     uses: &mut [[f64; 2 * DIMS]; UNITS],
     counts: &mut [[u32; 768]; DIMS],
@@ -84,7 +85,7 @@ fn block(
 // Reads once, and answers the lines that came.
 fn turn(
     mut s: Served,
-    tags: &mut [u16; UNITS],
+    tags: &mut [u16; TAGS],
     units: &mut [[u64; 7]; UNITS],
     uses: &mut [[f64; 2 * DIMS]; UNITS],
     counts: &mut [[u32; 768]; DIMS],
@@ -117,7 +118,7 @@ fn turn(
 // Answers a last line that has no line end, and writes what is left of the page.
 fn finish(
     s: Served,
-    tags: &mut [u16; UNITS],
+    tags: &mut [u16; TAGS],
     units: &mut [[u64; 7]; UNITS],
     uses: &mut [[f64; 2 * DIMS]; UNITS],
     counts: &mut [[u32; 768]; DIMS],
@@ -138,7 +139,7 @@ fn finish(
 
 // The whole input. Nothing says that an input ends, so the turns are counted down from a number that no run uses up.
 pub fn serve() {
-    let mut tags = [0u64; UNITS];
+    let mut tags = [0u16; TAGS];
     let unit = [0u64; 7];
     let mut units = [unit; UNITS];
     let used = [0.0; 2 * DIMS];

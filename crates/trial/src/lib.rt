@@ -25,6 +25,8 @@ pub const UNITS: usize = 256;
 
 pub const COUNTED: usize = 65;
 
+pub const TAGS: usize = UNITS + COUNTED;
+
 pub const REPORT: usize = 4096;
 
 // The number of a line that has no form, or stands before any start that was taken.

@@ -18,10 +18,10 @@ pub use same::head;
 pub use same::memory;
 pub use steps::CALL;
 pub use steps::COUNTED_LENT;
-pub use steps::HASHES;
 pub use steps::OUT_LENT;
 pub use steps::STAMP;
 pub use steps::STEPS;
+pub use steps::TAGS_LENT;
 pub use steps::UNITS_LENT;
 pub use steps::USES;
 pub use steps::amounts;
@@ -35,10 +35,12 @@ pub use steps::value_up_to;
 pub use tells::line;
 pub use tells::step;
 
-// Unit records, counted records and the bytes of the report's buffer.
+// Unit records, counted records, the tags of both, and the bytes of the report's buffer.
 pub const UNITS: usize = 4;
 
 pub const COUNTED: usize = 3;
+
+pub const TAGS: usize = UNITS + COUNTED;
 
 pub const OUT: usize = 200;
 

@@ -97,7 +97,8 @@ fn pruned(t: [u64; 5]) {
         source(4, t[3]),
         source(5, t[4]),
     ];
-    let n = counted::pruned(&mut counted, 5);
+    let mut tags = [0u16; 5];
+    let n = counted::pruned(&mut tags, &mut counted, 5);
     says::number(n as u64);
     says::text(b" stay:");
     totals(&counted, n);

@@ -1,5 +1,6 @@
 // Whether head and lent memory are as before, word by word; floats by their bits.
 use crate::COUNTED;
+use crate::TAGS;
 use crate::UNITS;
 use flow::Bucket;
 use flow::DIMS;
@@ -20,6 +21,20 @@ fn bits_of(x: f64) -> u64 {
 }
 
 fn words(a: &[u64], b: &[u64]) -> bool {
+    if a.len() != b.len() {
+        return false;
+    }
+    let mut i = 0;
+    while i < a.len() {
+        if a[i] != b[i] {
+            return false;
+        }
+        i += 1;
+    }
+    true
+}
+
+fn tagged(a: &[u16], b: &[u16]) -> bool {
     if a.len() != b.len() {
         return false;
     }
@@ -171,10 +186,10 @@ pub fn head(a: Shedder, b: Shedder) -> bool {
 // ---- the lent memory
 
 fn records(
-    tags: &[u16; UNITS],
+    tags: &[u16; TAGS],
     units: &[[u64; 7]; UNITS],
     uses: &[[f64; 2 * DIMS]; UNITS],
-    was_tags: &[u64; UNITS],
+    was_tags: &[u16; TAGS],
     was_units: &[[u64; 7]; UNITS],
     was_uses: &[[f64; 2 * DIMS]; UNITS],
 ) -> bool {
@@ -188,7 +203,7 @@ fn records(
         }
         i += 1;
     }
-    words(tags, was_tags)
+    tagged(tags, was_tags)
 }
 
 fn histogram(
@@ -222,13 +237,13 @@ fn sources(counted: &[[u64; 8]; COUNTED], was_counted: &[[u64; 8]; COUNTED]) -> 
 }
 
 pub fn memory(
-    tags: &[u16; UNITS],
+    tags: &[u16; TAGS],
     units: &[[u64; 7]; UNITS],
     uses: &[[f64; 2 * DIMS]; UNITS],
     counts: &[[u32; 768]; DIMS],
     sums: &[[f64; 768]; DIMS],
     counted: &[[u64; 8]; COUNTED],
-    was_tags: &[u64; UNITS],
+    was_tags: &[u16; TAGS],
     was_units: &[[u64; 7]; UNITS],
     was_uses: &[[f64; 2 * DIMS]; UNITS],
     was_counts: &[[u32; 768]; DIMS],

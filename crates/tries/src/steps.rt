@@ -15,7 +15,7 @@ pub const UNIT: usize = 2;
 
 pub const FAULT: usize = 4;
 
-pub const HASHES: usize = 6;
+pub const TAGS_LENT: usize = 6;
 
 pub const UNITS_LENT: usize = 7;
 
@@ -38,8 +38,8 @@ const WIDTH: usize = 20;
 const ROWS: usize = 104;
 
 // A row has: the call, a letter, as edges/calls reads it; the unit, g for a group, else the one with no address; the part
-// of the head that is unfit, as unfit reads it; how many records are lent of tags, units, uses and counted
-// sources; and as letters of VALUES how many bytes of the report's buffer, the amounts (a start's rates, else a cost) and
+// of the head that is unfit, as unfit reads it; how many tags, units, uses and counted sources are
+// lent; and as letters of VALUES how many bytes of the report's buffer, the amounts (a start's rates, else a cost) and
 // the stamp. The last says what is written: f, r, i, a, v of a case that is run, t of a call that is refused, l of a
 // line that is refused.
 //
@@ -49,110 +49,110 @@ const ROWS: usize = 104;
 // the number. Last the lines, question 8.
 fn code(row: usize, column: usize) -> u8 {
     let all = b"\
-        a     4443 i dd o   \
-        b     4443 i ee j f \
-        a     4443 i aa o r \
-        a     4443 i ss o r \
-        a     4443 i bb o r \
-        a     4443 i rr o r \
-        a     4443 i dd o   \
-        b     4443 i aa a   \
-        b     4443 i ff n i \
-        a     4443 i dd o   \
-        b     4443 i aa a   \
-        b     4443 i ff o i \
-        a     4443 i dd o   \
-        b g   4443 i aa a   \
-        b     4443 i aa p   \
-        b     4443 i aa p a \
-        a     4443 i dd o   \
-        b g   4443 i aa a   \
-        b     4443 i aa q   \
-        b     4443 i aa q a \
-        a     4443 i dd o   \
-        b     4443 i aa j   \
-        b     4443 i aa j v \
-        b     4443 i aa l v \
-        b     4443 i aa m v \
-        a     4443 i dd o   \
-        b     4443 i cc j   \
-        b g   4443 i ff k   \
-        c     4443 i cc o   \
-        l     4443 i bb o   \
-        a     4443 i ab o t \
-        a     4443 i ba o t \
-        a     4443 i sb o t \
-        a     4443 i bs o t \
-        a     4443 i ub o t \
-        a     3443 i bb o t \
-        a     4343 i bb o t \
-        a     4433 i bb o t \
-        a     0003 i bb o t \
-        a     4441 i bb o t \
+        a     7443 i dd o   \
+        b     7443 i ee j f \
+        a     7443 i aa o r \
+        a     7443 i ss o r \
+        a     7443 i bb o r \
+        a     7443 i rr o r \
+        a     7443 i dd o   \
+        b     7443 i aa a   \
+        b     7443 i ff n i \
+        a     7443 i dd o   \
+        b     7443 i aa a   \
+        b     7443 i ff o i \
+        a     7443 i dd o   \
+        b g   7443 i aa a   \
+        b     7443 i aa p   \
+        b     7443 i aa p a \
+        a     7443 i dd o   \
+        b g   7443 i aa a   \
+        b     7443 i aa q   \
+        b     7443 i aa q a \
+        a     7443 i dd o   \
+        b     7443 i aa j   \
+        b     7443 i aa j v \
+        b     7443 i aa l v \
+        b     7443 i aa m v \
+        a     7443 i dd o   \
+        b     7443 i cc j   \
+        b g   7443 i ff k   \
+        c     7443 i cc o   \
+        l     7443 i bb o   \
+        a     7443 i ab o t \
+        a     7443 i ba o t \
+        a     7443 i sb o t \
+        a     7443 i bs o t \
+        a     7443 i ub o t \
+        a     6443 i bb o t \
+        a     6343 i bb o t \
+        a     7433 i bb o t \
+        a     3003 i bb o t \
+        a     5441 i bb o t \
         a     0000 i aa o t \
-        b   a 4443 i bb o t \
-        b   b 4443 i bb o t \
-        b   c 4443 i bb o t \
-        b   d 4443 i bb o t \
-        b   e 4443 i bb o t \
-        b   f 4443 i bb o t \
-        b   g 4443 i bb o t \
-        b   h 4443 i bb o t \
-        b   i 4443 i bb o t \
-        b   j 4443 i bb o t \
-        b   k 4443 i bb o t \
-        b   l 4443 i bb o t \
-        b   m 4443 i bb o t \
-        b   n 4443 i bb o t \
-        b     3443 i bb o t \
-        b     4343 i bb o t \
-        b     4433 i bb o t \
-        b     4442 i bb o t \
-        b     4443 i sb o t \
-        b     4443 i bs o t \
-        b     4443 i bb t t \
-        b   a 3443 i ss t t \
-        b     3443 i ss t t \
-        b     4443 i ss t t \
-        c   a 4443 i bb o t \
-        c     3443 i bb o t \
-        c     4343 i bb o t \
-        c     4433 i bb o t \
-        c     4442 i bb o t \
-        c     4443 i sb o t \
-        c     4443 i bs o t \
-        d   a 4443 i bb o t \
-        d     3443 i bb o t \
-        d     4343 i bb o t \
-        d     4433 i bb o t \
-        d     4442 i bb o t \
-        d     4443 h bb o t \
-        d   a 3443 h bb o t \
-        e   a 4443 i bb o t \
-        e     3443 i bb o t \
-        e     4343 i bb o t \
-        e     4433 i bb o t \
-        e     4442 i bb o t \
-        e     4443 h bb o t \
-        e   a 3443 h bb o t \
-        f   a 4443 i bb o t \
-        f     3443 i bb o t \
-        f     4343 i bb o t \
-        f     4433 i bb o t \
-        f     4442 i bb o t \
-        f     4443 h bb o t \
-        f   a 3443 h bb o t \
-        g   a 4443 i bb o t \
-        h   a 4443 i bb o t \
-        i   a 4443 i bb o t \
-        j   a 4443 i bb o t \
-        k   a 4443 i bb o t \
-        m     4443 g bb o l \
-        n     4443 g bb o l \
-        o     4443 g bb o l \
-        p     4443 g bb o l \
-        q     4443 g bb o l \
-        r     4443 g bb o l ";
+        b   a 7443 i bb o t \
+        b   b 7443 i bb o t \
+        b   c 7443 i bb o t \
+        b   d 7443 i bb o t \
+        b   e 7443 i bb o t \
+        b   f 7443 i bb o t \
+        b   g 7443 i bb o t \
+        b   h 7443 i bb o t \
+        b   i 7443 i bb o t \
+        b   j 7443 i bb o t \
+        b   k 7443 i bb o t \
+        b   l 7443 i bb o t \
+        b   m 7443 i bb o t \
+        b   n 7443 i bb o t \
+        b     6443 i bb o t \
+        b     6343 i bb o t \
+        b     7433 i bb o t \
+        b     6442 i bb o t \
+        b     7443 i sb o t \
+        b     7443 i bs o t \
+        b     7443 i bb t t \
+        b   a 6443 i ss t t \
+        b     6443 i ss t t \
+        b     7443 i ss t t \
+        c   a 7443 i bb o t \
+        c     6443 i bb o t \
+        c     6343 i bb o t \
+        c     7433 i bb o t \
+        c     6442 i bb o t \
+        c     7443 i sb o t \
+        c     7443 i bs o t \
+        d   a 7443 i bb o t \
+        d     6443 i bb o t \
+        d     6343 i bb o t \
+        d     7433 i bb o t \
+        d     6442 i bb o t \
+        d     7443 h bb o t \
+        d   a 6443 h bb o t \
+        e   a 7443 i bb o t \
+        e     6443 i bb o t \
+        e     6343 i bb o t \
+        e     7433 i bb o t \
+        e     6442 i bb o t \
+        e     7443 h bb o t \
+        e   a 6443 h bb o t \
+        f   a 7443 i bb o t \
+        f     6443 i bb o t \
+        f     6343 i bb o t \
+        f     7433 i bb o t \
+        f     6442 i bb o t \
+        f     7443 h bb o t \
+        f   a 6443 h bb o t \
+        g   a 7443 i bb o t \
+        h   a 7443 i bb o t \
+        i   a 7443 i bb o t \
+        j   a 7443 i bb o t \
+        k   a 7443 i bb o t \
+        m     7443 g bb o l \
+        n     7443 g bb o l \
+        o     7443 g bb o l \
+        p     7443 g bb o l \
+        q     7443 g bb o l \
+        r     7443 g bb o l ";
     all[row % ROWS * WIDTH + column % WIDTH]
 }
 

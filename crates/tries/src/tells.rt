@@ -44,7 +44,7 @@ fn asked(row: usize) {
     says::text(b" fault");
     after_space(steps::letter(row, steps::FAULT));
     says::text(b" lent");
-    records_lent(row, steps::HASHES);
+    records_lent(row, steps::TAGS_LENT);
     records_lent(row, steps::UNITS_LENT);
     records_lent(row, steps::USES);
     records_lent(row, steps::COUNTED_LENT);
