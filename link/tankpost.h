@@ -80,7 +80,7 @@ typedef double tankpost_sums[TANKPOST_DIMS][TANKPOST_BUCKETS];
 
 struct tankpost_answered tankpost_start(
     struct tankpost_head head,
-    const uint64_t *hashes, size_t hashes_len,
+    const uint16_t *tags, size_t tags_len,
     const tankpost_unit_row *units, size_t units_len,
     const tankpost_use_row *uses, size_t uses_len,
     tankpost_counts *counts, tankpost_sums *sums,
@@ -89,7 +89,7 @@ struct tankpost_answered tankpost_start(
 
 struct tankpost_answered tankpost_judge(
     struct tankpost_head head,
-    uint64_t *hashes, size_t hashes_len,
+    uint16_t *tags, size_t tags_len,
     tankpost_unit_row *units, size_t units_len,
     tankpost_use_row *uses, size_t uses_len,
     tankpost_counts *counts, tankpost_sums *sums,
@@ -99,7 +99,7 @@ struct tankpost_answered tankpost_judge(
 /* cause: 0 receiver-ceiling, 1 over-share, any other relay-rate */
 struct tankpost_answered tankpost_cut(
     struct tankpost_head head,
-    uint64_t *hashes, size_t hashes_len,
+    uint16_t *tags, size_t tags_len,
     tankpost_unit_row *units, size_t units_len,
     tankpost_use_row *uses, size_t uses_len,
     tankpost_counted_row *counted, size_t counted_len,
@@ -108,7 +108,7 @@ struct tankpost_answered tankpost_cut(
 /* The value is the number of bytes written to the front of out. */
 struct tankpost_count tankpost_report(
     struct tankpost_head head,
-    const uint64_t *hashes, size_t hashes_len,
+    const uint16_t *tags, size_t tags_len,
     const tankpost_unit_row *units, size_t units_len,
     const tankpost_use_row *uses, size_t uses_len,
     const tankpost_counted_row *counted, size_t counted_len,
@@ -116,7 +116,7 @@ struct tankpost_count tankpost_report(
 
 uint64_t tankpost_report_refusal(
     struct tankpost_head head,
-    const uint64_t *hashes, size_t hashes_len,
+    const uint16_t *tags, size_t tags_len,
     const tankpost_unit_row *units, size_t units_len,
     const tankpost_use_row *uses, size_t uses_len,
     const tankpost_counted_row *counted, size_t counted_len,

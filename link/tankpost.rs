@@ -105,7 +105,7 @@ pub type Sums = [[f64; BUCKETS]; DIMS];
 extern "C" {
     fn tankpost_start(
         head: Head,
-        hashes: *const u64, hashes_len: usize,
+        tags: *const u16, tags_len: usize,
         units: *const UnitRow, units_len: usize,
         uses: *const UseRow, uses_len: usize,
         counts: *mut Counts,
@@ -116,7 +116,7 @@ extern "C" {
     ) -> Answered;
     fn tankpost_judge(
         head: Head,
-        hashes: *mut u64, hashes_len: usize,
+        tags: *mut u16, tags_len: usize,
         units: *mut UnitRow, units_len: usize,
         uses: *mut UseRow, uses_len: usize,
         counts: *mut Counts,
@@ -128,7 +128,7 @@ extern "C" {
     ) -> Answered;
     fn tankpost_cut(
         head: Head,
-        hashes: *mut u64, hashes_len: usize,
+        tags: *mut u16, tags_len: usize,
         units: *mut UnitRow, units_len: usize,
         uses: *mut UseRow, uses_len: usize,
         counted: *mut CountedRow, counted_len: usize,
@@ -138,7 +138,7 @@ extern "C" {
     ) -> Answered;
     fn tankpost_report(
         head: Head,
-        hashes: *const u64, hashes_len: usize,
+        tags: *const u16, tags_len: usize,
         units: *const UnitRow, units_len: usize,
         uses: *const UseRow, uses_len: usize,
         counted: *const CountedRow, counted_len: usize,
@@ -146,7 +146,7 @@ extern "C" {
     ) -> Count;
     fn tankpost_report_refusal(
         head: Head,
-        hashes: *const u64, hashes_len: usize,
+        tags: *const u16, tags_len: usize,
         units: *const UnitRow, units_len: usize,
         uses: *const UseRow, uses_len: usize,
         counted: *const CountedRow, counted_len: usize,
@@ -163,7 +163,8 @@ extern "C" {
 #[derive(Clone)]
 pub struct Shedder {
     pub head: Head,
-    pub hashes: Vec<u64>,
+    /// Those of the unit records, then those of the counted records.
+    pub tags: Vec<u16>,
     pub units: Vec<UnitRow>,
     pub uses: Vec<UseRow>,
     pub counts: Box<Counts>,
@@ -176,7 +177,7 @@ impl Shedder {
     pub fn new(units: usize, counted: usize) -> Self {
         Self {
             head: Head::default(),
-            hashes: vec![0; units],
+            tags: vec![0; units + counted],
             units: vec![[0; 7]; units],
             uses: vec![[0.0; 2 * DIMS]; units],
             counts: Box::new([[0; BUCKETS]; DIMS]),
@@ -194,7 +195,7 @@ impl Shedder {
         let a = unsafe {
             tankpost_start(
                 self.head,
-                self.hashes.as_ptr(), self.hashes.len(),
+                self.tags.as_ptr(), self.tags.len(),
                 self.units.as_ptr(), self.units.len(),
                 self.uses.as_ptr(), self.uses.len(),
                 &mut *self.counts,
@@ -211,7 +212,7 @@ impl Shedder {
         let a = unsafe {
             tankpost_judge(
                 self.head,
-                self.hashes.as_mut_ptr(), self.hashes.len(),
+                self.tags.as_mut_ptr(), self.tags.len(),
                 self.units.as_mut_ptr(), self.units.len(),
                 self.uses.as_mut_ptr(), self.uses.len(),
                 &mut *self.counts,
@@ -229,7 +230,7 @@ impl Shedder {
         let a = unsafe {
             tankpost_cut(
                 self.head,
-                self.hashes.as_mut_ptr(), self.hashes.len(),
+                self.tags.as_mut_ptr(), self.tags.len(),
                 self.units.as_mut_ptr(), self.units.len(),
                 self.uses.as_mut_ptr(), self.uses.len(),
                 self.counted.as_mut_ptr(), self.counted.len(),
@@ -245,7 +246,7 @@ impl Shedder {
         unsafe {
             tankpost_report(
                 self.head,
-                self.hashes.as_ptr(), self.hashes.len(),
+                self.tags.as_ptr(), self.tags.len(),
                 self.units.as_ptr(), self.units.len(),
                 self.uses.as_ptr(), self.uses.len(),
                 self.counted.as_ptr(), self.counted.len(),
@@ -258,7 +259,7 @@ impl Shedder {
         unsafe {
             tankpost_report_refusal(
                 self.head,
-                self.hashes.as_ptr(), self.hashes.len(),
+                self.tags.as_ptr(), self.tags.len(),
                 self.units.as_ptr(), self.units.len(),
                 self.uses.as_ptr(), self.uses.len(),
                 self.counted.as_ptr(), self.counted.len(),

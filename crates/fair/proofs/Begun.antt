@@ -112,14 +112,14 @@ started : (n : ℕ) (h o : Shedder) (g k : wants.Hist) (a : Bool) → shed.choos
 started n h o g k true e = refl
 started n h o g k false e = absurd (let z : _≡_ {A = ℕ} 0 1 = cc in omega arith)
 
-pub left-is : (was : Shedder) (m : Memory) (rate ceiling : List ℕ) → calls.starts was m rate ceiling .answer ≡ begin.Started → calls.starts was m rate ceiling .head ≡ shed.opening rate ceiling (length (m .rows .tags)) (length (m .counted))
+pub left-is : (was : Shedder) (m : Memory) (rate ceiling : List ℕ) → calls.starts was m rate ceiling .answer ≡ begin.Started → calls.starts was m rate ceiling .head ≡ shed.opening rate ceiling (length (m .rows .units)) (length (m .counted))
 unfolding shed.start
 left-is was m rate ceiling e =
-    started (shed.start-asked rate (length (m .rows .tags)) (length (m .rows .units)) (length (m .rows .uses)) (length (m .counted))) was (shed.opening rate ceiling (length (m .rows .tags)) (length (m .counted))) (m .hist) wants.cleared
+    started (shed.start-asked rate (length (m .rows .tags)) (length (m .rows .units)) (length (m .rows .uses)) (length (m .counted))) was (shed.opening rate ceiling (length (m .rows .units)) (length (m .counted))) (m .hist) wants.cleared
     (eqb (shed.start-asked rate (length (m .rows .tags)) (length (m .rows .units)) (length (m .rows .uses)) (length (m .counted))) 0) e
 
 pub left-tied : (was : Shedder) (m : Memory) (rate ceiling : List ℕ) → shed.all-rates rate ≡ true → calls.starts was m rate ceiling .answer ≡ begin.Started
-    → Tied (length (m .rows .tags)) rate (calls.left was m rate ceiling .head) (m .rows) (model.store Name same shares (length (m .rows .tags)) (by-dim rate) (by-dim ceiling) []) 0
+    → Tied (length (m .rows .units)) rate (calls.left was m rate ceiling .head) (m .rows) (model.store Name same shares (length (m .rows .units)) (by-dim rate) (by-dim ceiling) []) 0
 left-tied was m rate ceiling rates e =
-    subst (λ (h : Shedder). Tied (length (m .rows .tags)) rate h (m .rows) (model.store Name same shares (length (m .rows .tags)) (by-dim rate) (by-dim ceiling) []) 0) (sym (left-is was m rate ceiling e))
-    (opening-tied (length (m .rows .tags)) rate ceiling (length (m .counted)) (m .rows) rates)
+    subst (λ (h : Shedder). Tied (length (m .rows .units)) rate h (m .rows) (model.store Name same shares (length (m .rows .units)) (by-dim rate) (by-dim ceiling) []) 0) (sym (left-is was m rate ceiling e))
+    (opening-tied (length (m .rows .units)) rate ceiling (length (m .counted)) (m .rows) rates)

@@ -416,4 +416,4 @@ module _ (room : ℕ) (rate ceiling : List ℕ) (rates : shed.all-rates rate ≡
 
 -- THE THEOREM
 pub demand-three : Claim
-demand-three was m rate ceiling rates e = demanded (length (m .rows .tags)) rate ceiling rates (calls.left was m rate ceiling) (left-tied was m rate ceiling rates e)
+demand-three was m rate ceiling rates e = demanded (length (m .rows .units)) rate ceiling rates (calls.left was m rate ceiling) (left-tied was m rate ceiling rates e)

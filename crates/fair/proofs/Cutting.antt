@@ -147,7 +147,7 @@ module _ (room : ℕ) (rate : List ℕ) (rates : shed.all-rates rate ≡ true) (
   cut-held : Held room (m .rows) (h .tracked)
   cut-held =
       let r = cut-ready h (length (m .rows .tags)) (length (m .rows .units)) (length (m .rows .uses)) (length (m .counted)) cost (took .asked) in
-      record { tags = r .tags-room ∙ b .room-is; units = r .units-room ∙ b .room-is; uses = r .uses-room ∙ b .room-is; few = le-trans (r .tracked-held) (le-of-eq (b .room-is)); wide = b .wide }
+      record { tags = omega (arith, r .tags-room, b .room-is); units = r .units-room ∙ b .room-is; uses = r .uses-room ∙ b .room-is; few = le-trans (r .tracked-held) (le-of-eq (b .room-is)); wide = b .wide }
 
   cut-bound : Bound room rate h (m .rows) st (h .flow .«at_ms»)
   cut-bound = record { tied = b; held = cut-held }
@@ -157,7 +157,7 @@ module _ (room : ℕ) (rate : List ℕ) (rates : shed.all-rates rate ≡ true) (
   cut-after =
       let s = cut-on h (m .rows) u c cost in
       subst (λ (j : shed.Cut). Bound room rate (j .head) (j .rows) (model.step Name same shares room st (h .flow .«at_ms») (cut-call room rate c u cost)) (h .flow .«at_ms»)) (sym (took .is))
-      (judging.tallied-bound room rate (s .head) (m .counted) u (shed.index-of c) (getD cost 0 0) (s .rows) _ (h .flow .«at_ms»)
+      (judging.tallied-bound room rate (s .head) (m .counted) (sender.name-of u) (shed.index-of c) (getD cost 0 0) (s .rows) _ (h .flow .«at_ms»)
       (on-bound room rate h (m .rows) st cut-bound u cost (ap shed.is-unbounded (b .rate-is) ∙ not-unbounded rate rates) c))
 
   pub cut-tied : Tied room rate (shed.cut h (m .rows) (m .counted) u c cost .head) (shed.cut h (m .rows) (m .counted) u c cost .rows) (model.step Name same shares room st (h .flow .«at_ms») (cut-call room rate c u cost)) (h .flow .«at_ms»)

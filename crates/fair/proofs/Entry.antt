@@ -90,16 +90,16 @@ module _ (room : ℕ) where
   abbrev pub viewed : (ℕ → Bucket) → Rows → ℕ → Use → S
   viewed b m n o = record { bucket = b; rows = listed m n; overflow = o }
 
-  -- memory of the room's lengths, with n live records
+  -- memory of the room's lengths, with n live records; behind their tags stand those of the counted sources
   pub record Held (m : Rows) (n : ℕ) : Type 0 where
-    pub tags : length (m .tags) ≡ room
+    pub tags : room ≤ length (m .tags)
     pub units : length (m .units) ≡ room
     pub uses : length (m .uses) ≡ room
     pub few : n ≤ room
     pub wide : Wide 7 m n
 
   held-long : (m m' : Rows) (n k : ℕ) → Held m n → Long m' m → k ≤ room → Wide 7 m' k → Held m' k
-  held-long m m' n k h l f w = record { tags = l .tags ∙ h .tags; units = l .units ∙ h .units; uses = l .uses ∙ h .uses; few = f; wide = w }
+  held-long m m' n k h l f w = record { tags = omega (arith, l .tags, h .tags); units = l .units ∙ h .units; uses = l .uses ∙ h .uses; few = f; wide = w }
 
   module _ (m : Rows) (n : ℕ) (o : Use) (k : K) where
     -- what a use put back leaves

@@ -1,12 +1,13 @@
 -- A judgement that is not refused: the real state after it is tied to the model's store after the model's judgement. Assumes nothing.
 use mathlib.Core.Path.{_≡_, refl, sym, ap, _∙_, subst}
-use Prim.Native.Nat.{ℕ, suc, _-_, _^_, _≤_, _<_, max}
+use Prim.Native.Nat.{ℕ, suc, _+_, _-_, _^_, _≤_, _<_, max}
 use native.Mathlib.Nat.{le-of-eq, le-trans}
 use native.Mathlib.Omega.{arith}
 use mathlib.Core.Bool.{Bool, true, false, cond, true≢false}
-use mathlib.Core.List.{List}
+use mathlib.Core.List.{List, _++_}
 use lib.Dec.{eqb, leb, ltb}
-use lib.ListN.{length, getD}
+use lib.ListN.{length, getD, take, length-append, List·getD-append}
+use lib.Seq.{length-take-le, getD-take}
 use lib.Ieee.{Float}
 use borrow.Author.Tests.{eqb-true, eq-eqb, leb-true, ltb-false}
 use Rattle.flow.proofs.Parts.{all-at}
@@ -17,8 +18,10 @@ use Rattle.flow.specs.declared.Use.{Use}
 use Rattle.verdict.specs.declared.Outcome.{Outcome}
 use Rattle.verdict.specs.declared.Verdict.{Verdict}
 use Rattle.sender.specs.declared.Unit as unit
+use Rattle.sender.specs.declared.Name as sender-name
 use Rattle.counted.specs.Counted as counts
 use Rattle.store.specs.Store.{Rows, rows}
+use Rattle.store.proofs.Places.{Same}
 use Rattle.head.specs.declared.Shedder.{Shedder}
 use Rattle.head.specs.declared.Flow.{Flow}
 use Rattle.head.specs.declared.Answer.the-variants as answer
@@ -30,6 +33,8 @@ use Rattle.fair.specs.Demand as demand
 use Rattle.fair.specs.Demand.{Batch, Here, present, verdict-here, does}
 use Rattle.fair.specs.Calls as calls
 use Rattle.fair.proofs.View as view
+use Rattle.fair.proofs.Sweep as pass
+use Rattle.fair.proofs.Sweep.{Wide}
 use Rattle.fair.proofs.View.{Name, same, shares, name-of}
 use Rattle.fair.proofs.Back.{Whole}
 use Rattle.fair.proofs.Entry as entry
@@ -189,25 +194,71 @@ module _ (room : ℕ) (rate : List ℕ) where
         held = b .held;
       }
 
-  pub tallied-bound : (h : Shedder) (rows : List (List ℕ)) (u : unit.Unit) (c r : ℕ) (m : Rows) (st : S) (clk : ℕ) → Bound room rate h m st clk → Bound room rate (shed.tallied (shed.tally h rows) (sender.words-of u) c r .head) m st clk
-  unfolding shed.tallied
-  tallied-bound h rows u c r m st clk b = counted-bound h (counts.pruned (counts.count rows (h .counted) (sender.words-of u) c) .count) c r m st clk b
+  -- other tags behind those of the unit records leave it too
+  behind-same : (m : Rows) (ts : List ℕ) → room ≤ length (m .tags) → (j : ℕ) → j < room → Same (rows (take room (m .tags) ++ ts) (m .units) (m .uses)) j m j
+  unfolding Same
+  behind-same m ts l j h =
+      let front : j < length (take room (m .tags)) = omega (arith, length-take-le room (m .tags) l) in
+      (List·getD-append (take room (m .tags)) ts 0 j front ∙ getD-take room (m .tags) j 0 h, refl, refl)
 
-  told-bound : (h : Shedder) (rows : List (List ℕ)) (u : unit.Unit) (v : Verdict) (cost : List ℕ) (m : Rows) (st : S) (clk : ℕ) → Bound room rate h m st clk → Bound room rate (shed.told (shed.tally h rows) (sender.words-of u) v cost .head) m st clk
+  behind-bound : (h : Shedder) (m : Rows) (ts : List ℕ) (st : S) (clk : ℕ) → Bound room rate h m st clk → Bound room rate h (rows (take (h .«unit_room») (m .tags) ++ ts) (m .units) (m .uses)) st clk
+  unfolding Wide
+  behind-bound h m ts st clk b =
+      let t = b .tied in
+      let a = b .held in
+      subst (λ (r : ℕ). Bound room rate h (rows (take r (m .tags) ++ ts) (m .units) (m .uses)) st clk) (sym (t .room-is)) (record {
+        tied = record {
+          rate-is = t .rate-is;
+          room-is = t .room-is;
+          clock-is = t .clock-is;
+          long = t .long;
+          bucket-is = t .bucket-is;
+          rows-is = pass.listed-same room (rows (take room (m .tags) ++ ts) (m .units) (m .uses)) m (h .tracked)
+              (λ j l. pass.record-same room (rows (take room (m .tags) ++ ts) (m .units) (m .uses)) j m j (behind-same m ts (a .tags) j (omega (arith, a .few)))) ∙ t .rows-is;
+          overflow-is = t .overflow-is;
+          whole = t .whole;
+          level-is = t .level-is;
+          scan-is = t .scan-is;
+          wide = t .wide;
+        };
+        held = record { tags = omega (arith, length-append (take room (m .tags)) ts, length-take-le room (m .tags) (a .tags)); units = a .units; uses = a .uses; few = a .few; wide = a .wide };
+      })
+
+  abbrev tally-on : Shedder → Rows → List (List ℕ) → shed.Tally
+  tally-on h m k = shed.tally h (m .tags) k
+
+  abbrev rows-then : Rows → shed.Tally → Rows
+  rows-then m t = rows (t .tags) (m .units) (m .uses)
+
+  pub tallied-bound : (h : Shedder) (k : List (List ℕ)) (n : sender-name.Name) (c r : ℕ) (m : Rows) (st : S) (clk : ℕ) → Bound room rate h m st clk
+      → Bound room rate (shed.tallied (tally-on h m k) n c r .head) (rows-then m (shed.tallied (tally-on h m k) n c r)) st clk
+  unfolding shed.tallied
+  tallied-bound h k n c r m st clk b =
+      let own : List ℕ = shed.source-tags (tally-on h m k) in
+      let s = counts.count own k (h .counted) n c in
+      let ts = counts.pruned-tags s (counts.count-tags own k (h .counted) n) in
+      counted-bound h (counts.pruned s .count) c r (rows (take (h .«unit_room») (m .tags) ++ ts) (m .units) (m .uses)) st clk (behind-bound h m ts st clk b)
+
+  told-bound : (h : Shedder) (k : List (List ℕ)) (n : sender-name.Name) (v : Verdict) (cost : List ℕ) (m : Rows) (st : S) (clk : ℕ) → Bound room rate h m st clk
+      → Bound room rate (shed.told (tally-on h m k) n v cost .head) (rows-then m (shed.told (tally-on h m k) n v cost)) st clk
   unfolding shed.told
-  told-bound h rows u v cost m st clk b = go (is-admitted v)
+  told-bound h k n v cost m st clk b = go (is-admitted v)
     where
-      go : (c : Bool) → Bound room rate (shed.choose c (shed.tally h rows) (shed.tallied (shed.tally h rows) (sender.words-of u) (shed.cause-of v) (getD cost 0 0)) .head) m st clk
+      go : (c : Bool) → Bound room rate (shed.choose c (tally-on h m k) (shed.tallied (tally-on h m k) n (shed.cause-of v) (getD cost 0 0)) .head) (rows-then m (shed.choose c (tally-on h m k) (shed.tallied (tally-on h m k) n (shed.cause-of v) (getD cost 0 0)))) st clk
       go true = b
-      go false = tallied-bound h rows u (shed.cause-of v) (getD cost 0 0) m st clk b
+      go false = tallied-bound h k n (shed.cause-of v) (getD cost 0 0) m st clk b
 
   -- ---- the whole judgement, as the model's
   abbrev pub C : Type 0
   C = model.Call Name same shares room
 
   -- the head that the scan finds
+  abbrev tally-then : Shedder → Memory → unit.Unit → List ℕ → ℕ → shed.Tally
+  tally-then h m u cost now =
+      shed.told (tally-on (shed.judged h (m .rows) u (shed.numbers cost) now .head) (shed.judged h (m .rows) u (shed.numbers cost) now .rows) (m .counted)) (sender.name-of u) (shed.judged h (m .rows) u (shed.numbers cost) now .verdict) cost
+
   abbrev head-then : Shedder → Memory → unit.Unit → List ℕ → ℕ → Shedder
-  head-then h m u cost now = shed.told (shed.tally (shed.judged h (m .rows) u (shed.numbers cost) now .head) (m .counted)) (sender.words-of u) (shed.judged h (m .rows) u (shed.numbers cost) now .verdict) cost .head
+  head-then h m u cost now = tally-then h m u cost now .head
 
   abbrev pub judge-call-at : Shedder → Memory → unit.Unit → List ℕ → ℕ → ℕ → shed.Entered → C
   judge-call-at h m u cost t now e = model.Judge (name-of u) (batch-at h u cost t e) (fills h) (tied.came room rate (head-then h m u cost now) (m .hist) now)
@@ -221,8 +272,8 @@ module _ (room : ℕ) (rate : List ℕ) where
     bounded-bound =
         let now = max t (h .flow .«at_ms») in
         let p = shed.judged h (m .rows) u (shed.numbers cost) now in
-        tied.scanned-bound room rate (head-then h m u cost now) (p .rows) (m .hist) _ now
-        (told-bound (p .head) (m .counted) u (p .verdict) cost (p .rows) _ now (judged-bound h (m .rows) st b u cost t))
+        tied.scanned-bound room rate (head-then h m u cost now) (rows-then (p .rows) (tally-then h m u cost now)) (m .hist) _ now
+        (told-bound (p .head) (m .counted) (sender.name-of u) (p .verdict) cost (p .rows) _ now (judged-bound h (m .rows) st b u cost t))
 
     pub bounded-answer : shed.bounded h m u cost t .answer
         ≡ shed.answer-of (verdict-here (seen (resolve st u) st) (h .flow .«at_ms») (batch-at h u cost t (shed.entry (m .rows) (h .tracked) (h .«unit_room») u (max t (h .flow .«at_ms»)))) (fills h))
@@ -294,7 +345,7 @@ module _ (room : ℕ) (rate : List ℕ) (rates : shed.all-rates rate ≡ true) (
   judge-held : Held room (m .rows) (h .tracked)
   judge-held =
       let r = asked-ready h (length (m .rows .tags)) (length (m .rows .units)) (length (m .rows .uses)) (length (m .counted)) cost t (took .asked) in
-      record { tags = r .tags-room ∙ b .room-is; units = r .units-room ∙ b .room-is; uses = r .uses-room ∙ b .room-is; few = le-trans (r .tracked-held) (le-of-eq (b .room-is)); wide = b .wide }
+      record { tags = omega (arith, r .tags-room, b .room-is); units = r .units-room ∙ b .room-is; uses = r .uses-room ∙ b .room-is; few = le-trans (r .tracked-held) (le-of-eq (b .room-is)); wide = b .wide }
 
   judge-bound : Bound room rate h (m .rows) st (h .flow .«at_ms»)
   judge-bound = record { tied = b; held = judge-held }

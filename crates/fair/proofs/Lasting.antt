@@ -22,6 +22,7 @@ use Rattle.fair.specs.Calls as calls
 use Rattle.fair.specs.Calls.{State, Call, Judge, Cut, Read, Lasts, Lasting}
 use Rattle.fair.proofs.Entry.{Held}
 use Rattle.fair.proofs.Tied.{Tied}
+use Rattle.fair.proofs.Spans.{bounded-span, after-span, on-span}
 use Rattle.fair.proofs.Steady as steady
 use Rattle.fair.proofs.Steady.{Tables, running, none, Fine}
 use Rattle.fair.proofs.Judging as judging
@@ -78,9 +79,9 @@ head-yes h rate room size e rates f r p low fine =
     rooms-yes (h .«unit_room») (h .«counted_room») (h .tracked) (h .counted) (subst (λ (n : ℕ). Rooms n (h .«counted_room»)) (sym f) (subst (Rooms room) (sym (fine .room)) r)) (omega arith) (omega (arith, fine .room, fine .few)) in
     rw (a, s, t, q, or-right (shed.is-unbounded (h .flow .rate)))
 
-memory-yes : (h : Shedder) (i u s k : ℕ) → i ≡ h .«unit_room» → u ≡ h .«unit_room» → s ≡ h .«unit_room» → k ≡ h .«counted_room» → shed.memory-whole h i u s k ≡ true
-unfolding shed.memory-whole
-memory-yes h i u s k a b c d = rw (eq-eqb i (h .«unit_room») a, eq-eqb u (h .«unit_room») b, eq-eqb s (h .«unit_room») c, eq-eqb k (h .«counted_room») d)
+memory-yes : (h : Shedder) (i u s k : ℕ) → i ≡ u + k → u ≡ h .«unit_room» → s ≡ h .«unit_room» → k ≡ h .«counted_room» → shed.memory-whole h i u s k ≡ true
+unfolding shed.memory-whole shed.tags-whole
+memory-yes h i u s k a b c d = rw (eq-eqb i (u + k) a, eq-eqb u (h .«unit_room») b, eq-eqb s (h .«unit_room») c, eq-eqb k (h .«counted_room») d)
 
 -- ---- question 9: what is found is there
 first-holds : (p : ℕ → Bool) (n : ℕ) → store.first p n < n → p (store.first p n) ≡ true
@@ -132,6 +133,7 @@ cut-open h m u c cost e = rw (e, never-misplaced (m .rows .tags) (m .rows .units
 module _ (room size : ℕ) (rate ceiling : List ℕ) (rates : shed.all-rates rate ≡ true) (rooms : Rooms room size) where
   pub record Steady (s : State) : Type 0 where
     pub held : Held room (s .memory .rows) (s .head .tracked)
+    pub span : length (s .memory .rows .tags) ≡ room + size
     pub lasts : steady.Lasts size (s .head) (s .memory .counted) (s .head .flow .«at_ms»)
     pub low : s .head .flow .«at_ms» < 9007199254740992
 
@@ -151,6 +153,7 @@ module _ (room size : ℕ) (rate ceiling : List ℕ) (rates : shed.all-rates rat
       let e : shed.judge h m u cost t .head .flow .«at_ms» ≡ max t (h .flow .«at_ms») = a .tied .clock-is in
       record {
         held = a .held;
+        span = ap (λ (j : shed.Judged). length (j .memory .rows .tags)) (judging.took room rate rates h m (real.store-of room rate ceiling rates ms) tied u cost t f .is) ∙ bounded-span h m u cost t ∙ k .span;
         lasts = subst (λ (n : ℕ). steady.Lasts size (shed.judge h m u cost t .head) (shed.judge h m u cost t .memory .counted) n) (sym e)
             (subst (λ (j : shed.Judged). steady.Lasts size (j .head) (j .memory .counted) (max t (h .flow .«at_ms»))) (sym (judging.took room rate rates h m (real.store-of room rate ceiling rates ms) tied u cost t f .is)) (steady.bounded-lasts size h m u cost t (k .lasts)));
         low = omega (arith, judging.judge-stamp room rate rates h m (real.store-of room rate ceiling rates ms) tied u cost t f, k .low);
@@ -164,9 +167,11 @@ module _ (room size : ℕ) (rate ceiling : List ℕ) (rates : shed.all-rates rat
       let e : j .head .flow .«at_ms» ≡ h .flow .«at_ms» = a .tied .clock-is in
       record {
         held = a .held;
+        span = ap (λ (j : shed.Cut). length (j .rows .tags)) (cutting.took room rate rates h m (real.store-of room rate ceiling rates ms) tied u c cost f .is)
+            ∙ after-span (cutting.cut-on h (m .rows) u c cost) (m .counted) u c cost ∙ on-span (shed.hands-back (h .flow .rate) c) h (m .rows) u (shed.numbers cost) ∙ k .span;
         lasts = subst (λ (n : ℕ). steady.Lasts size (j .head) (j .counted) n) (sym e)
             (subst (λ (j : shed.Cut). steady.Lasts size (j .head) (j .counted) (h .flow .«at_ms»)) (sym (cutting.took room rate rates h m (real.store-of room rate ceiling rates ms) tied u c cost f .is))
-            (steady.noted-lasts size (cutting.cut-on h (m .rows) u c cost .head) (m .counted) u c cost (h .flow .«at_ms») (on-lasts h m u c cost (k .lasts))));
+            (steady.noted-lasts size (cutting.cut-on h (m .rows) u c cost .head) (cutting.cut-on h (m .rows) u c cost .rows .tags) (m .counted) u c cost (h .flow .«at_ms») (on-lasts h m u c cost (k .lasts))));
         low = omega (arith, k .low);
       }
   step-steady s ms b (Read q) f k = k
@@ -192,7 +197,7 @@ module _ (room size : ℕ) (rate ceiling : List ℕ) (rates : shed.all-rates rat
     memory-lasts h =
         let t = real.whole room rate ceiling rates first b h .tie in
         let s = all-steady h in
-        memory-yes (calls.state first h .head) _ _ _ _ (s .held .tags ∙ sym (t .room-is)) (s .held .units ∙ sym (t .room-is)) (s .held .uses ∙ sym (t .room-is)) (s .lasts .long ∙ sym (s .lasts .fine .room))
+        memory-yes (calls.state first h .head) _ _ _ _ (omega (arith, s .span, s .held .units, s .lasts .long)) (s .held .units ∙ sym (t .room-is)) (s .held .uses ∙ sym (t .room-is)) (s .lasts .long ∙ sym (s .lasts .fine .room))
 
     pub lasting : Lasting first
     lasting = record {
@@ -212,18 +217,18 @@ yes-yes false x e = absurd (true≢false (sym e))
 
 -- what question 2 shows
 pub record Sizes (i u s k : ℕ) : Type 0 where
-  pub units : u ≡ i
-  pub uses : s ≡ i
-  pub rooms : Rooms i k
+  pub tags : i ≡ u + k
+  pub uses : s ≡ u
+  pub rooms : Rooms u k
 
 asked-sizes : (rate : List ℕ) (i u s k : ℕ) → shed.start-asked rate i u s k ≡ 0 → Sizes i u s k
-unfolding shed.start-asked shed.sizes-whole
+unfolding shed.start-asked shed.sizes-whole shed.tags-whole
 asked-sizes rate i u s k e =
     let a = judging.zero-yes (shed.or (shed.is-unbounded rate) (shed.all-rates rate)) _ 0 e in
-    let b = judging.zero-yes (cond (eqb u i) (cond (eqb s i) (shed.rooms-whole i k 0 0) false) false) 0 1 (a .1) in
-    let c = yes-yes (eqb u i) _ (b .0) in
-    let d = yes-yes (eqb s i) _ (c .1) in
-    record { units = eqb-true u i (c .0); uses = eqb-true s i (d .0); rooms = rooms-of i k 0 0 (d .1) }
+    let b = judging.zero-yes (cond (eqb i (u + k)) (cond (eqb s u) (shed.rooms-whole u k 0 0) false) false) 0 1 (a .1) in
+    let c = yes-yes (eqb i (u + k)) _ (b .0) in
+    let d = yes-yes (eqb s u) _ (c .1) in
+    record { tags = eqb-true i (u + k) (c .0); uses = eqb-true s u (d .0); rooms = rooms-of u k 0 0 (d .1) }
 
 started-asked : (n : ℕ) (h o : Shedder) (g k : wants.Hist) (a : Bool) → shed.choose a (shed.start-ends begin.Started o k) (shed.start-ends (begin.Refused n) h g) .answer ≡ begin.Started → a ≡ true
 started-asked n h o g k true e = refl
@@ -233,7 +238,7 @@ start-sizes : (was : Shedder) (m : Memory) (rate ceiling : List ℕ) → calls.s
 unfolding shed.start
 start-sizes was m rate ceiling e =
     let n = shed.start-asked rate (length (m .rows .tags)) (length (m .rows .units)) (length (m .rows .uses)) (length (m .counted)) in
-    asked-sizes rate _ _ _ _ (eqb-true n 0 (started-asked n was (shed.opening rate ceiling (length (m .rows .tags)) (length (m .counted))) (m .hist) wants.cleared (eqb n 0) e))
+    asked-sizes rate _ _ _ _ (eqb-true n 0 (started-asked n was (shed.opening rate ceiling (length (m .rows .units)) (length (m .counted))) (m .hist) wants.cleared (eqb n 0) e))
 
 opening-lasts : (rate ceiling : List ℕ) (room : ℕ) (k : List (List ℕ)) → 2 ≤ length k → steady.Lasts (length k) (shed.opening rate ceiling room (length k)) k 0
 unfolding shed.opening
@@ -251,12 +256,13 @@ opening-few rate ceiling room size = let x : 0 ≤ room = omega arith in x
 pub it-lasts : Lasts
 it-lasts was m rate ceiling rates e =
     let z = start-sizes was m rate ceiling e in
-    let room = length (m .rows .tags) in
+    let room = length (m .rows .units) in
     let size = length (m .counted) in
     let t = begun.left-tied was m rate ceiling rates e in
     let o = begun.left-is was m rate ceiling e in
     lasting room size rate ceiling rates (z .rooms) (calls.left was m rate ceiling) t (record {
-      held = record { tags = refl; units = z .units; uses = z .uses; few = subst (λ (h : Shedder). h .tracked ≤ room) (sym o) (opening-few rate ceiling room size); wide = t .wide };
+      held = record { tags = omega (arith, z .tags); units = refl; uses = z .uses; few = subst (λ (h : Shedder). h .tracked ≤ room) (sym o) (opening-few rate ceiling room size); wide = t .wide };
+      span = z .tags;
       lasts = subst (λ (h : Shedder). steady.Lasts size h (m .counted) (h .flow .«at_ms»)) (sym o) (opening-from rate ceiling room (m .counted) (z .rooms .two));
       low = omega (arith, t .clock-is);
     })

@@ -26,5 +26,6 @@ pub mod Judging
 pub mod Cutting
 pub mod Begun
 pub mod Calls
+pub mod Spans
 pub mod Steady
 pub mod Lasting

@@ -14,9 +14,10 @@ use Rattle.verdict.specs.Verdict.{is-admitted}
 use Rattle.verdict.specs.declared.Verdict.{Verdict}
 use Rattle.sender.specs.declared.Unit as unit
 use Rattle.sender.specs.declared.Words.{Words}
+use Rattle.sender.specs.declared.Name.{Name}
 use Rattle.sender.specs.Sender as sender
 use Rattle.counted.specs.Counted as counts
-use Rattle.store.specs.Store.{Rows}
+use Rattle.store.specs.Store.{Rows, rows}
 use Rattle.counted.specs.Counted.{Sources, sources}
 use Rattle.counted.proofs.Pruning.{prune-none, prune-next, frees-so}
 use Rattle.wants.specs.Wants as wants
@@ -39,13 +40,13 @@ pub record Kept (size : ℕ) (s : Sources) : Type 0 where
   pub long : length (s .rows) ≡ size
   pub few : s .count ≤ size
 
-count-kept : (rows : List (List ℕ)) (n : ℕ) (w : Words) (c : ℕ) → n < length rows → Kept (length rows) (counts.count rows n w c)
+count-kept : (tags : List ℕ) (rows : List (List ℕ)) (n : ℕ) (w : Name) (c : ℕ) → n < length rows → Kept (length rows) (counts.count tags rows n w c)
 unfolding counts.count
-count-kept rows n w c h = go (ltb (counts.counted-find rows w n) n)
+count-kept tags rows n w c h = go (ltb (counts.counted-find tags rows w n) n)
   where
-    go : (b : Bool) → Kept (length rows) (counts.choose b (sources n (counts.counted-up rows (counts.counted-find rows w n) c)) (sources (n + 1) (counts.counted-up (counts.counted-add rows n w) n c)))
-    go true = record { long = up-long rows (counts.counted-find rows w n) c; few = omega arith }
-    go false = record { long = up-long (counts.counted-add rows n w) n c ∙ add-long rows n w; few = omega arith }
+    go : (b : Bool) → Kept (length rows) (counts.choose b (sources n (counts.counted-up rows (counts.counted-find tags rows w n) c)) (sources (n + 1) (counts.counted-up (counts.counted-add rows n (w .words)) n c)))
+    go true = record { long = up-long rows (counts.counted-find tags rows w n) c; few = omega arith }
+    go false = record { long = up-long (counts.counted-add rows n (w .words)) n c ∙ add-long rows n (w .words); few = omega arith }
 
 one-long : (s : Sources) (k i : ℕ) → length (counts.prune-one s k i .rows) ≡ length (s .rows)
 unfolding counts.prune-one
@@ -165,20 +166,21 @@ module _ (size : ℕ) where
     pub fine : Fine size (t .head) clk
     pub long : length (t .counted) ≡ size
 
-  pub tallied-fine : (h : Shedder) (k : List (List ℕ)) (w : Words) (c r : ℕ) (clk : ℕ) → Fine size h clk → length k ≡ size → Tallied (shed.tallied (shed.tally h k) w c r) clk
+  pub tallied-fine : (h : Shedder) (i : List ℕ) (k : List (List ℕ)) (w : Name) (c r : ℕ) (clk : ℕ) → Fine size h clk → length k ≡ size → Tallied (shed.tallied (shed.tally h i k) w c r) clk
   unfolding shed.tallied shed.added
-  tallied-fine h k w c r clk f l =
-      let p : Freed size (counts.pruned (counts.count k (h .counted) w c)) =
-      pruned-freed size (counts.count k (h .counted) w c) (omega (arith, f .few)) (subst (λ (n : ℕ). Kept n (counts.count k (h .counted) w c)) l (count-kept k (h .counted) w c (omega (arith, f .few)))) in
+  tallied-fine h i k w c r clk f l =
+      let own : List ℕ = shed.source-tags (shed.tally h i k) in
+      let p : Freed size (counts.pruned (counts.count own k (h .counted) w c)) =
+      pruned-freed size (counts.count own k (h .counted) w c) (omega (arith, f .few)) (subst (λ (n : ℕ). Kept n (counts.count own k (h .counted) w c)) l (count-kept own k (h .counted) w c (omega (arith, f .few)))) in
       record { fine = record { clock = f .clock; at = f .at; began = f .began; read = f .read; tables = f .tables; room = f .room; few = p .few }; long = p .long }
 
-  pub told-fine : (h : Shedder) (k : List (List ℕ)) (w : Words) (v : Verdict) (cost : List ℕ) (clk : ℕ) → Fine size h clk → length k ≡ size → Tallied (shed.told (shed.tally h k) w v cost) clk
+  pub told-fine : (h : Shedder) (i : List ℕ) (k : List (List ℕ)) (w : Name) (v : Verdict) (cost : List ℕ) (clk : ℕ) → Fine size h clk → length k ≡ size → Tallied (shed.told (shed.tally h i k) w v cost) clk
   unfolding shed.told
-  told-fine h k w v cost clk f l = go (is-admitted v)
+  told-fine h i k w v cost clk f l = go (is-admitted v)
     where
-      go : (c : Bool) → Tallied (shed.choose c (shed.tally h k) (shed.tallied (shed.tally h k) w (shed.cause-of v) (getD cost 0 0))) clk
+      go : (c : Bool) → Tallied (shed.choose c (shed.tally h i k) (shed.tallied (shed.tally h i k) w (shed.cause-of v) (getD cost 0 0))) clk
       go true = record { fine = f; long = l }
-      go false = tallied-fine h k w (shed.cause-of v) (getD cost 0 0) clk f l
+      go false = tallied-fine h i k w (shed.cause-of v) (getD cost 0 0) clk f l
 
   -- ---- THE JUDGEMENT and THE CUT
   pub record Lasts (h : Shedder) (k : List (List ℕ)) (clk : ℕ) : Type 0 where
@@ -191,9 +193,10 @@ module _ (size : ℕ) where
       let now = max t (h .flow .«at_ms») in
       let l : h .flow .«at_ms» ≤ max t (h .flow .«at_ms») = omega arith in
       let p = shed.judged h (m .rows) u (shed.numbers cost) now in
-      let q = told-fine (p .head) (m .counted) (sender.words-of u) (p .verdict) cost now (judged-fine h (m .rows) u (shed.numbers cost) (h .flow .«at_ms») now l (b .fine)) (b .long) in
-      record { fine = scanned-fine (shed.told (shed.tally (p .head) (m .counted)) (sender.words-of u) (p .verdict) cost .head) (p .rows) (m .hist) now (q .fine); long = q .long }
+      let t = shed.told (shed.tally (p .head) (p .rows .tags) (m .counted)) (sender.name-of u) (p .verdict) cost in
+      let q = told-fine (p .head) (p .rows .tags) (m .counted) (sender.name-of u) (p .verdict) cost now (judged-fine h (m .rows) u (shed.numbers cost) (h .flow .«at_ms») now l (b .fine)) (b .long) in
+      record { fine = scanned-fine (t .head) (rows (t .tags) (p .rows .units) (p .rows .uses)) (m .hist) now (q .fine); long = q .long }
 
-  pub noted-lasts : (h : Shedder) (k : List (List ℕ)) (u : unit.Unit) (c : Cause) (cost : List ℕ) (clk : ℕ) → Lasts h k clk → Lasts (shed.noted (shed.tally h k) (sender.words-of u) c cost .head) (shed.noted (shed.tally h k) (sender.words-of u) c cost .counted) clk
+  pub noted-lasts : (h : Shedder) (i : List ℕ) (k : List (List ℕ)) (u : unit.Unit) (c : Cause) (cost : List ℕ) (clk : ℕ) → Lasts h k clk → Lasts (shed.noted (shed.tally h i k) (sender.name-of u) c cost .head) (shed.noted (shed.tally h i k) (sender.name-of u) c cost .counted) clk
   unfolding shed.noted
-  noted-lasts h k u c cost clk b = let q = tallied-fine h k (sender.words-of u) (shed.index-of c) (getD cost 0 0) clk (b .fine) (b .long) in record { fine = q .fine; long = q .long }
+  noted-lasts h i k u c cost clk b = let q = tallied-fine h i k (sender.name-of u) (shed.index-of c) (getD cost 0 0) clk (b .fine) (b .long) in record { fine = q .fine; long = q .long }

@@ -107,7 +107,7 @@ module _ (room : ℕ) where
             scan-is = t .scan-is;
             wide = w;
           };
-          held = record { tags = p .long .tags ∙ a .tags; units = p .long .units ∙ a .units; uses = p .long .uses ∙ a .uses; few = omega (arith, p .few, a .few); wide = w };
+          held = record { tags = omega (arith, p .long .tags, a .tags); units = p .long .units ∙ a .units; uses = p .long .uses ∙ a .uses; few = omega (arith, p .few, a .few); wide = w };
         }
 
     re-rows : (h : Shedder) (m : Rows) (st : entry.S room) (clk : ℕ) (xs : List R′) → st .rows ≡ xs → Bound rate h m st clk → Bound rate h m (record { bucket = st .bucket; rows = xs; overflow = st .overflow }) clk

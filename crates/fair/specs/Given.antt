@@ -2,7 +2,7 @@
 pub use Rattle.flow.specs.Flow.{zeros}
 unfoldable pub use Rattle.flow.specs.Flow.{numbers, fills}
 pub use Rattle.head.specs.Numbers.{choose, or}
-unfoldable pub use Rattle.head.specs.Questions.{is-rate, is-max, all-rates, is-unbounded, is-stamp, costs-held, stamps-whole, tables-whole, rooms-whole, sizes-whole, head-whole, memory-whole, start-asked, judge-asked, cut-asked}
+unfoldable pub use Rattle.head.specs.Questions.{is-rate, is-max, all-rates, is-unbounded, is-stamp, costs-held, stamps-whole, tables-whole, rooms-whole, tags-whole, sizes-whole, head-whole, memory-whole, start-asked, judge-asked, cut-asked}
 pub use Rattle.head.specs.Start.{Beginning, start-ends}
 unfoldable pub use Rattle.head.specs.Start.{buckets, first-levels, opening, start}
 unfoldable pub use Rattle.head.specs.Readings.{index-of, visited as visited-tables, cut-batches, level-read, rate-read, is-bounded}
@@ -13,7 +13,7 @@ pub use Rattle.scan.specs.Scanning.{Scanning, scanning, Started, started, ended
 unfoldable pub use Rattle.scan.specs.Scanning.{visited, visit, again, ended, opened, begun, scanned}
 pub use Rattle.entry.specs.Entering.{Entered, entered, place, headed}
 unfoldable pub use Rattle.entry.specs.Entering.{is-misplaced, entry, used-at, put-back}
-pub use Rattle.tally.specs.Counting.{Tally, tally}
+pub use Rattle.tally.specs.Counting.{Tally, tally, source-tags}
 unfoldable pub use Rattle.tally.specs.Counting.{cause-of, added, tallied, told}
 pub use Rattle.shed.specs.Judging.{Through, passing, outcome-at, Memory, memory, Judged, judge-ends}
 unfoldable pub use Rattle.shed.specs.Judging.{rank-at, outcome, flowed, judged, answer-of, bounded, judge}

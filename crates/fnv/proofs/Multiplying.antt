@@ -1,43 +1,27 @@
--- Multiplication modulo 2^64 by halves of 32 bits: each product of two halves fits, and the halves' sum is the remainder of the product.
+-- Multiplication by the prime modulo 2^64, as a sum of multiples by powers of two: what drops out of each is a multiple of 2^64.
 use mathlib.Core.Path.{_≡_, sym, ap, _∙_}
-use Prim.Native.Nat.{ℕ, _+_, _*_, _/_, _%_, _^_, _<_, _≤_}
-use native.Mathlib.Nat.{mul-add-mod-self-right, div-add-mod', mul-le-mul}
+use Prim.Native.Nat.{ℕ, _+_, _*_, _/_, _%_, _^_}
+use native.Mathlib.Nat.{mul-add-mod-self-right, mod-add-mod}
 use native.Mathlib.Omega.{arith}
-use lib.Pow.{mod-mod-pow}
-use mir.Syntax.{w64}
-use mir.Val.{Fits}
+use Rattle.fnv.specs.Fnv.{prime}
 
--- both are below 2^32
-pub halves-fit : (x y : ℕ) → x < 4294967296 → y < 4294967296 → Fits w64 (x * y)
-halves-fit x y h l =
-    let m : x * y ≤ 4294967295 * 4294967295 = mul-le-mul {n₁ = x} {m₁ = y} {n₂ = 4294967295} {m₂ = 4294967295} (omega arith) (omega arith) in
-    record { fits = omega arith }
+-- the multiples that are added, each without its carries, and what dropped out of them
+kept : ℕ → ℕ
+kept x = x % 16777216 * 1099511627776 + x % 72057594037927936 * 256 + x % 144115188075855872 * 128 + x % 576460752303423488 * 32 + x % 1152921504606846976 * 16 + x % 9223372036854775808 * 2 + x
 
--- x and y by their halves; q and r are the upper and lower half of the two cross products
-columns : (x y x₁ x₀ y₁ y₀ q r : ℕ) → x₁ * 4294967296 + x₀ ≡ x → y₁ * 4294967296 + y₀ ≡ y → q * 4294967296 + r ≡ x₁ * y₀ + x₀ * y₁
-    → (x₁ * y₁ + q) * 2 ^ 64 + (r * 4294967296 + x₀ * y₀) ≡ x * y
-columns x y x₁ x₀ y₁ y₀ q r ex ey e =
-    omega (arith, ap (λ (n : ℕ). n * y) ex, ap (λ (n : ℕ). (x₁ * 4294967296 + x₀) * n) ey)
+dropped : ℕ → ℕ
+dropped x = x / 16777216 + x / 72057594037927936 + x / 144115188075855872 + x / 576460752303423488 + x / 1152921504606846976 + x / 9223372036854775808
 
-pub by-halves : (x y : ℕ)
-    → ((x / 4294967296 * (y % 4294967296) + x % 4294967296 * (y / 4294967296)) % 2 ^ 64 % 4294967296 * 4294967296 + x % 4294967296 * (y % 4294967296)) % 2 ^ 64
-    ≡ x * y % 2 ^ 64
-by-halves x y =
-    ap (λ (n : ℕ). (n * 4294967296 + x₀ * y₀) % 2 ^ 64) (mod-mod-pow cross 32 32)
-    ∙ sym (mul-add-mod-self-right (x₁ * y₁ + cross / 4294967296) (2 ^ 64) (cross % 4294967296 * 4294967296 + x₀ * y₀))
-    ∙ ap (λ (n : ℕ). n % 2 ^ 64) (columns x y x₁ x₀ y₁ y₀ (cross / 4294967296) (cross % 4294967296) (div-add-mod' x 4294967296) (div-add-mod' y 4294967296) (div-add-mod' cross 4294967296))
+columns : (x : ℕ) → dropped x * 2 ^ 64 + kept x ≡ x * prime
+unfolding kept dropped
+columns x = omega arith
+
+pub by-shifts : (x a b c d e r : ℕ) → a ≡ (x % 16777216 * 1099511627776 + x % 72057594037927936 * 256) % 2 ^ 64 → b ≡ (a + x % 144115188075855872 * 128) % 2 ^ 64
+    → c ≡ (b + x % 576460752303423488 * 32) % 2 ^ 64 → d ≡ (c + x % 1152921504606846976 * 16) % 2 ^ 64 → e ≡ (d + x % 9223372036854775808 * 2) % 2 ^ 64
+    → r ≡ (e + x) % 2 ^ 64 → r ≡ x * prime % 2 ^ 64
+unfolding kept
+by-shifts x a b c d e r ea eb ec ed ee er =
+    simp (er, ee, ed, ec, eb, ea, mod-add-mod) (whole x)
   where
-    x₁ : ℕ
-    x₁ = x / 4294967296
-
-    x₀ : ℕ
-    x₀ = x % 4294967296
-
-    y₁ : ℕ
-    y₁ = y / 4294967296
-
-    y₀ : ℕ
-    y₀ = y % 4294967296
-
-    cross : ℕ
-    cross = x₁ * y₀ + x₀ * y₁
+    whole : (x : ℕ) → kept x % 2 ^ 64 ≡ x * prime % 2 ^ 64
+    whole x = sym (mul-add-mod-self-right (dropped x) (2 ^ 64) (kept x)) ∙ ap (λ (n : ℕ). n % 2 ^ 64) (columns x)

@@ -2,29 +2,28 @@
 ghost use mathlib.Core.Path.{_≡_};
 ghost use Prim.Native.Nat.{_*_, _%_, _^_};
 ghost use Rattle.fnv.specs.Fnv as spec;
+use std::num::wrapping_add_u64;
 
 pub const OFFSET_BASIS: u64 = 0xcbf2_9ce4_8422_2325;
 
-const PRIME: u64 = 0x0000_0100_0000_01b3;
-
-// x * y modulo 2^64, by halves of 32 bits: the product of the two upper halves drops out whole,
-// and of the two cross products the upper 32 bits.
-pub fn wrapping_mul(x: u64, y: u64) -> u64
-    ensures { λ r. ⌜ r ≡ x * y % 2 ^ 64 ⌝ }
+// x times the prime, 2^40 + 2^8 + 2^7 + 2^5 + 2^4 + 2 + 1, modulo 2^64: of each multiple by a power of two the carries above
+// drop out, and the sums wrap. The compiler makes one multiplication of it.
+pub fn times_prime(x: u64) -> u64
+    ensures { λ r. ⌜ r ≡ x * spec.prime % 2 ^ 64 ⌝ }
 {
-    let x0 = x % 4294967296;
-    let x1 = x / 4294967296;
-    let y0 = y % 4294967296;
-    let y1 = y / 4294967296;
-    let cross = std::num::wrapping_add_u64(x1 * y0, x0 * y1);
-    std::num::wrapping_add_u64(cross % 4294967296 * 4294967296, x0 * y0)
+    let a = wrapping_add_u64(x % 16777216 * 1099511627776, x % 72057594037927936 * 256);
+    let b = wrapping_add_u64(a, x % 144115188075855872 * 128);
+    let c = wrapping_add_u64(b, x % 576460752303423488 * 32);
+    let d = wrapping_add_u64(c, x % 1152921504606846976 * 16);
+    let e = wrapping_add_u64(d, x % 9223372036854775808 * 2);
+    wrapping_add_u64(e, x)
 }
 
 // The hash after one more byte.
 pub fn fed(hash: u64, byte: u64) -> u64
     ensures { λ r. ⌜ r ≡ spec.fed hash byte ⌝ }
 {
-    wrapping_mul(hash ^ byte, PRIME)
+    times_prime(hash ^ byte)
 }
 
 // The hash after the eight bytes of a word, the most significant first.

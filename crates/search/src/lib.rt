@@ -19,18 +19,20 @@ pub fn is_at(tags: &[u16], units: &[[u64; 7]], i: usize, name: Name) -> bool
     false
 }
 
-// How many records are tried at once.
+// How many records are tried at once: a tag is sought among many records, those of a table stand close to each other.
+const FAR: usize = 32;
+
 const NEAR: usize = 16;
 
-// Whether one of the NEAR records from i on has the tag. No jump depends on a comparison, so the compiler makes eight of
+// Whether one of the FAR records from i on has the tag. No jump depends on a comparison, so the compiler makes eight of
 // them at once.
 fn near_tag(tags: &[u16], i: usize, tag: u16) -> bool
-    requires { ⌜ i + 16 ≤ length (now tags) ⌝ }
-    ensures { λ r. ⌜ (r ≡ false → store.None (store.has-tag (now (tags .entry)) tag) i (i + 16)) ⌝ }
+    requires { ⌜ i + 32 ≤ length (now tags) ⌝ }
+    ensures { λ r. ⌜ (r ≡ false → store.None (store.has-tag (now (tags .entry)) tag) i (i + 32)) ⌝ }
 {
     let mut met = false;
     let mut k = 0;
-    while k < NEAR {
+    while k < FAR {
         if tags[i + k] == tag {
             met = true;
         }
@@ -39,7 +41,7 @@ fn near_tag(tags: &[u16], i: usize, tag: u16) -> bool
     met
 }
 
-// A place up to n before which no record from `from` on has the tag, in steps of NEAR.
+// A place up to n before which no record from `from` on has the tag, in steps of FAR.
 fn skip_to_tag(tags: &[u16], from: usize, n: usize, tag: u16) -> usize
     requires { ⌜ from ≤ n ⌝ }
     requires { ⌜ n ≤ length (now tags) ⌝ }
@@ -48,11 +50,11 @@ fn skip_to_tag(tags: &[u16], from: usize, n: usize, tag: u16) -> usize
     ensures { λ r. ⌜ store.None (store.has-tag (now (tags .entry)) tag) from r ⌝ }
 {
     let mut i = from;
-    while NEAR <= n - i {
+    while FAR <= n - i {
         if near_tag(tags, i, tag) {
             return i;
         }
-        i += NEAR;
+        i += FAR;
     }
     i
 }

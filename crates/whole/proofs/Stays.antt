@@ -13,9 +13,10 @@ use Rattle.verdict.specs.Verdict.{is-admitted}
 use Rattle.verdict.specs.declared.Verdict.{Verdict}
 use Rattle.sender.specs.declared.Unit.{Unit}
 use Rattle.sender.specs.declared.Words.{Words}
-use Rattle.sender.specs.Sender.{words-of, name-of, is-overflow}
+use Rattle.sender.specs.declared.Name.{Name}
+use Rattle.sender.specs.Sender.{name-of, is-overflow}
 use Rattle.counted.specs.Counted as counts
-use Rattle.store.specs.Store.{Rows, find}
+use Rattle.store.specs.Store.{Rows, rows, find}
 use Rattle.counted.specs.Counted.{Sources, sources, counted-find, counted-up, counted-add}
 use Rattle.counted.proofs.Pruning.{frees}
 use Rattle.head.specs.declared.Shedder.{Shedder}
@@ -26,7 +27,7 @@ use Rattle.head.specs.Readings.{index-of}
 use Rattle.head.proofs.Asked.{asked-ready}
 use Rattle.scan.specs.Scanning.{scanning}
 use Rattle.entry.specs.Entering.{is-misplaced, Entered, entry}
-use Rattle.tally.specs.Counting.{Tally, tally, added, cause-of, tallied, told}
+use Rattle.tally.specs.Counting.{Tally, tally, source-tags, added, cause-of, tallied, told}
 use Rattle.shed.specs.Judging.{flowed, judged, Memory, Judged, bounded, judge}
 use Rattle.cut.specs.Cutting.{KeptBy, kept-by, hands-back, flowed-back, handed-back, Cut, noted, cut-after, cut}
 use Rattle.whole.specs.Whole.{Stays}
@@ -84,9 +85,9 @@ sources-all : (b : Bool) (x y : Sources) (P : Sources → Type 0) → (b ≡ tru
 sources-all true x y P p q = p refl
 sources-all false x y P p q = q refl
 
-count-held : (rows : List (List ℕ)) (n : ℕ) (w : Words) (cause : ℕ) → counts.count rows n w cause .count ≤ n + 1
+count-held : (tags : List ℕ) (rows : List (List ℕ)) (n : ℕ) (name : Name) (cause : ℕ) → counts.count tags rows n name cause .count ≤ n + 1
 unfolding counts.count
-count-held rows n w cause = sources-all (ltb (counted-find rows w n) n) _ _ (λ (s : Sources). s .count ≤ n + 1) (λ e. omega arith) (λ e. omega arith)
+count-held tags rows n name cause = sources-all (ltb (counted-find tags rows name n) n) _ _ (λ (s : Sources). s .count ≤ n + 1) (λ e. omega arith) (λ e. omega arith)
 
 up-length : (rows : List (List ℕ)) (i cause : ℕ) → length (counted-up rows i cause) ≡ length rows
 unfolding counted-up
@@ -96,11 +97,11 @@ add-length : (rows : List (List ℕ)) (i : ℕ) (w : Words) → length (counted-
 unfolding counted-add
 add-length rows i w = length-set rows i (w .kind ∷ w .a ∷ w .b ∷ w .c ∷ w .d ∷ 0 ∷ 0 ∷ 0 ∷ [])
 
-count-length : (rows : List (List ℕ)) (n : ℕ) (w : Words) (cause : ℕ) → length (counts.count rows n w cause .rows) ≡ length rows
+count-length : (tags : List ℕ) (rows : List (List ℕ)) (n : ℕ) (name : Name) (cause : ℕ) → length (counts.count tags rows n name cause .rows) ≡ length rows
 unfolding counts.count
-count-length rows n w cause =
-    sources-all (ltb (counted-find rows w n) n) (sources n (counted-up rows (counted-find rows w n) cause)) (sources (n + 1) (counted-up (counted-add rows n w) n cause)) (λ (s : Sources). length (s .rows) ≡ length rows)
-    (λ e. up-length rows (counted-find rows w n) cause) (λ e. up-length (counted-add rows n w) n cause ∙ add-length rows n w)
+count-length tags rows n name cause =
+    sources-all (ltb (counted-find tags rows name n) n) (sources n (counted-up rows (counted-find tags rows name n) cause)) (sources (n + 1) (counted-up (counted-add rows n (name .words)) n cause)) (λ (s : Sources). length (s .rows) ≡ length rows)
+    (λ e. up-length rows (counted-find tags rows name n) cause) (λ e. up-length (counted-add rows n (name .words)) n cause ∙ add-length rows n (name .words))
 
 pruned-held : (s : Sources) (c : ℕ) → s .count ≤ c → length (s .rows) ≡ c → 2 ≤ c → counts.pruned s .count < c
 unfolding counts.pruned
@@ -109,9 +110,9 @@ pruned-held s c p e q =
     (λ y. omega (arith, ltb-true (s .count) (length (s .rows)) y, e))
     (λ y. let long : length (s .rows) ≤ s .count = ltb-false (s .count) (length (s .rows)) y in omega (arith, frees (s .rows) (s .count) (omega (arith, long, e, q)) (omega (arith, p, e)), p))
 
-tallied-whole : (h : Shedder) (k : List (List ℕ)) (w : Words) (cause receptions : ℕ) → Whole h → length k ≡ h .«counted_room» → Whole (tallied (tally h k) w cause receptions .head)
+tallied-whole : (h : Shedder) (i : List ℕ) (k : List (List ℕ)) (n : Name) (cause receptions : ℕ) → Whole h → length k ≡ h .«counted_room» → Whole (tallied (tally h i k) n cause receptions .head)
 unfolding tallied added
-tallied-whole h k u cause receptions w e = record {
+tallied-whole h i k n cause receptions w e = record {
   rates = w .rates;
   clock = w .clock;
   at = w .at;
@@ -124,17 +125,17 @@ tallied-whole h k u cause receptions w e = record {
   counted-most = w .counted-most;
   tracked-held = w .tracked-held;
   counted-held =
-      pruned-held (counts.count k (h .counted) u cause) (h .«counted_room») (omega (arith, count-held k (h .counted) u cause, w .counted-held))
-      (count-length k (h .counted) u cause ∙ e) (w .counted-least);
+      pruned-held (counts.count (source-tags (tally h i k)) k (h .counted) n cause) (h .«counted_room») (omega (arith, count-held (source-tags (tally h i k)) k (h .counted) n cause, w .counted-held))
+      (count-length (source-tags (tally h i k)) k (h .counted) n cause ∙ e) (w .counted-least);
 }
 
 choose-tally : (b : Bool) (x y : Tally) → Whole (x .head) → Whole (y .head) → Whole (choose b x y .head)
 choose-tally true x y p q = p
 choose-tally false x y p q = q
 
-told-whole : (h : Shedder) (k : List (List ℕ)) (w : Words) (v : Verdict) (cost : List ℕ) → Whole h → length k ≡ h .«counted_room» → Whole (told (tally h k) w v cost .head)
+told-whole : (h : Shedder) (i : List ℕ) (k : List (List ℕ)) (n : Name) (v : Verdict) (cost : List ℕ) → Whole h → length k ≡ h .«counted_room» → Whole (told (tally h i k) n v cost .head)
 unfolding told
-told-whole h k u v cost w e = choose-tally (is-admitted v) (tally h k) (tallied (tally h k) u (cause-of v) (getD cost 0 0)) w (tallied-whole h k u (cause-of v) (getD cost 0 0) w e)
+told-whole h i k n v cost w e = choose-tally (is-admitted v) (tally h i k) (tallied (tally h i k) n (cause-of v) (getD cost 0 0)) w (tallied-whole h i k n (cause-of v) (getD cost 0 0) w e)
 
 -- ---- a judgement
 judged-room : (h : Shedder) (m : Rows) (u : Unit) (cost : List Float) (now : ℕ) → judged h m u cost now .head .«counted_room» ≡ h .«counted_room»
@@ -150,8 +151,9 @@ bounded-whole h m u cost stamp w p e =
     let clock = max stamp (h .flow .«at_ms») in
     let held : clock < 9007199254740992 = latest stamp (h .flow .«at_ms») p (w .clock) in
     let j = judged h (m .rows) u (numbers cost) clock in
-    scanned-whole (scanning (told (tally (j .head) (m .counted)) (words-of u) (j .verdict) cost .head) (j .rows) (m .hist)) clock
-    (told-whole (j .head) (m .counted) (words-of u) (j .verdict) cost (judged-whole h (m .rows) u (numbers cost) clock w held) (e ∙ sym (judged-room h (m .rows) u (numbers cost) clock))) held
+    let t = told (tally (j .head) (j .rows .tags) (m .counted)) (name-of u) (j .verdict) cost in
+    scanned-whole (scanning (t .head) (rows (t .tags) (j .rows .units) (j .rows .uses)) (m .hist)) clock
+    (told-whole (j .head) (j .rows .tags) (m .counted) (name-of u) (j .verdict) cost (judged-whole h (m .rows) u (numbers cost) clock w held) (e ∙ sym (judged-room h (m .rows) u (numbers cost) clock))) held
 
 choose-judged : (b : Bool) (x y : Judged) → (b ≡ true → head-whole (x .head) ≡ true) → head-whole (y .head) ≡ true → head-whole (choose b x y .head) ≡ true
 choose-judged true x y p q = p refl
@@ -171,7 +173,7 @@ judge-keeps h m u cost stamp w =
 -- ---- a cut
 after-whole : (s : KeptBy) (k : List (List ℕ)) (u : Unit) (c : Cause) (cost : List ℕ) → Whole (s .head) → length k ≡ s .head .«counted_room» → head-whole (cut-after k u c cost s .head) ≡ true
 unfolding noted
-after-whole s k u c cost w e = whole-is (tallied (tally (s .head) k) (words-of u) (index-of c) (getD cost 0 0) .head) (tallied-whole (s .head) k (words-of u) (index-of c) (getD cost 0 0) w e)
+after-whole s k u c cost w e = whole-is (tallied (tally (s .head) (s .rows .tags) k) (name-of u) (index-of c) (getD cost 0 0) .head) (tallied-whole (s .head) (s .rows .tags) k (name-of u) (index-of c) (getD cost 0 0) w e)
 
 handed-room : (h : Shedder) (m : Rows) (u : Unit) (cost : List Float) → handed-back (kept-by h m) u cost .head .«counted_room» ≡ h .«counted_room»
 unfolding handed-back

@@ -4,12 +4,12 @@ use borrow.Author.Needs.{needs}
 use Rattle.fnv.proofs.fed.Statement.{statement}
 use Rattle.fnv.proofs.fed.Tie as tie
 
-wrapping-mul-requires : tie.Need-wrapping-mul-requires
-wrapping-mul-requires c κs = search needs
+times-prime-requires : tie.Need-times-prime-requires
+times-prime-requires c κs = search needs
 
 returns : tie.Need-returns
 unfolding fed
-returns c = c .wrapping-mul .ensures
+returns c = c .times-prime .ensures
 
 pub fed-spec : {M : Type 1} → statement M
-fed-spec = tie.close (tie.spec wrapping-mul-requires returns)
+fed-spec = tie.close (tie.spec times-prime-requires returns)

@@ -13,10 +13,10 @@ use Rattle.search.proofs.near_tag.Statement.{statement}
 use Rattle.search.proofs.near_tag.Tie as tie
 
 abbrev Inv-loop : tie.InvT-loop
-Inv-loop tags i tag met₀ k₀ met k = (k ≤ 16) × (i + 16 ≤ length tags) × (met ≡ false → None (has-tag tags tag) i (i + k))
+Inv-loop tags i tag met₀ k₀ met k = (k ≤ 32) × (i + 32 ≤ length tags) × (met ≡ false → None (has-tag tags tag) i (i + k))
 
 abbrev μ-loop : tie.MeasureT-loop
-μ-loop tags i tag met₀ k₀ met k = 16 - k
+μ-loop tags i tag met₀ k₀ met k = 32 - k
 
 loop-holds : tie.Need-loop-holds Inv-loop μ-loop
 loop-holds c = (search needs, search needs, λ f j h l. absurd (omega arith))
@@ -48,7 +48,7 @@ loop-again c = (
 )
 
 returns : tie.Need-returns Inv-loop μ-loop
-returns c = let e : c .before .loop .k ≡ 16 = omega arith in λ f. rw e at (c .before .loop .inv .2 f)
+returns c = let e : c .before .loop .k ≡ 32 = omega arith in λ f. rw e at (c .before .loop .inv .2 f)
 
 pub near-tag-spec : {M : Type 1} → statement M
 near-tag-spec = tie.close (tie.spec Inv-loop μ-loop loop-holds add-if1 mul-if1 shared-slice-read-if1 add-k loop-less loop-again returns)

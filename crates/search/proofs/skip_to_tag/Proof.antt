@@ -1,4 +1,4 @@
--- `search::skip_to_tag` meets its contract: the places passed, sixteen at a time. Assumes nothing.
+-- `search::skip_to_tag` meets its contract: the places passed, 32 at a time. Assumes nothing.
 use Prim.Native.Nat.{_≤_, _-_}
 use borrow.Author.Needs.{needs}
 use lib.ListN.{length}

@@ -58,11 +58,11 @@ loop-less c = search needs
 loop-again : tie.Need-loop-again Inv-loop μ-loop
 loop-again c = search needs
 
-words-requires-2 : tie.Need-words-requires-2 Inv-loop μ-loop
-words-requires-2 c κs = search needs
+tagged-requires : tie.Need-tagged-requires Inv-loop μ-loop
+tagged-requires c κs = search needs
 
 returns-3 : tie.Need-returns-3 Inv-loop μ-loop
 returns-3 c = search needs
 
 pub records-spec : {M : Type 1} → statement M
-records-spec = tie.close (tie.spec Inv-loop μ-loop loop-holds mul-words index-1-words mul-words-2 index-1-words-2 words-requires returns mul-floats index-1-floats mul-floats-2 index-1-floats-2 floats-requires returns-2 add-i loop-less loop-again words-requires-2 returns-3)
+records-spec = tie.close (tie.spec Inv-loop μ-loop loop-holds mul-words index-1-words mul-words-2 index-1-words-2 words-requires returns mul-floats index-1-floats mul-floats-2 index-1-floats-2 floats-requires returns-2 add-i loop-less loop-again tagged-requires returns-3)
