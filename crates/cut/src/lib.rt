@@ -171,16 +171,7 @@ pub fn cut(
                 head,
             };
         }
-        let h = handed_back(
-            head,
-            tags,
-            units,
-            uses,
-            unit,
-            name,
-            i,
-            flow::numbers(cost),
-        );
+        let h = handed_back(head, tags, units, uses, unit, name, i, flow::numbers(cost));
         return noted(h, tags, counted, name, cause, cost);
     }
     noted(head, tags, counted, name, cause, cost)

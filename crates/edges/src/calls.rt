@@ -88,14 +88,7 @@ fn report(
     out: &mut [u8],
 ) -> u64 {
     if call == 5 {
-        return numbers::report_number(report::write_report(
-            head,
-            tags,
-            units,
-            uses,
-            counted,
-            out,
-        ));
+        return numbers::report_number(report::write_report(head, tags, units, uses, counted, out));
     }
     let no = report::report_refusal(head, tags, units, uses, counted, out);
     if call == 6 {

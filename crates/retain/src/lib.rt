@@ -25,13 +25,7 @@ pub fn is_stale(tags: &[u16], units: &[[u64; 7]], i: usize, table: usize, at_ms:
 }
 
 // The record at i is moved to j, and i freed.
-fn moved(
-    tags: &mut [u16],
-    units: &mut [[u64; 7]],
-    uses: &mut [[f64; 2 * DIMS]],
-    i: usize,
-    j: usize,
-)
+fn moved(tags: &mut [u16], units: &mut [[u64; 7]], uses: &mut [[f64; 2 * DIMS]], i: usize, j: usize)
     requires { ⌜ i < length (now tags) ⌝ }
     requires { ⌜ i < length (now units) ⌝ }
     requires { ⌜ i < length (now uses) ⌝ }

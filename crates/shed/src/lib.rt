@@ -149,17 +149,7 @@ fn judged(
     let level = head.level;
     let room = head.unit_room;
     let overflow = head.overflow;
-    let p = entry::entry(
-        tags,
-        units,
-        uses,
-        head.tracked,
-        room,
-        unit,
-        name,
-        i,
-        clock,
-    );
+    let p = entry::entry(tags, units, uses, head.tracked, room, unit, name, i, clock);
     let at = p.at;
     let used = entry::used_at(units, uses, overflow, at);
     let o = outcome(f, level, used, rank_at(hash, at, room), cost, clock);

@@ -39,7 +39,7 @@ pub same-told : (w u : unit.Unit) (r : Bool) → Tells r (w ≡ u) → r ≡ cal
 same-told w u r t = told w u r _ refl t
 
 -- ---- the record that is used
-own-by : (m m' : Rows) (i tracked room tags units : ℕ) (over found fits : Bool) → ltb i tracked ≡ found → ltb tracked room ≡ fits → tags ≡ room → units ≡ room → tracked ≤ room
+own-by : (m m' : Rows) (i tracked room tags units : ℕ) (over found fits : Bool) → ltb i tracked ≡ found → ltb tracked room ≡ fits → room ≤ tags → units ≡ room → tracked ≤ room
     → cond over false (cond fits true (cond (ltb tags tracked) false (cond (ltb units tracked) false found)))
     ≡ ltb (choose over (entered (place room tracked) m) (choose found (entered (place i tracked) m) (choose fits (entered (place tracked (tracked + 1)) m') (entered (place room tracked) m))) .place .at) room
 own-by m m' i tracked room tags units true found fits ef et eh eu l = sym (le-ltb room room (omega arith))
@@ -50,7 +50,7 @@ own-by m m' i tracked room tags units false false true ef et eh eu l = sym (lt-l
 own-by m m' i tracked room tags units false false false ef et eh eu l =
     rw (le-ltb tags tracked (omega (arith, l, eh)), le-ltb units tracked (omega (arith, l, eu))) (sym (le-ltb room room (omega arith)))
 
-own-is : (m : Rows) (tracked room : ℕ) (u : unit.Unit) (now : ℕ) → length (m .tags) ≡ room → length (m .units) ≡ room → tracked ≤ room
+own-is : (m : Rows) (tracked room : ℕ) (u : unit.Unit) (now : ℕ) → room ≤ length (m .tags) → length (m .units) ≡ room → tracked ≤ room
     → own-used (m .tags) (m .units) tracked room u ≡ ltb (entry m tracked room u now .place .at) room
 unfolding own-used entry
 own-is m tracked room u now eh eu l =
@@ -80,5 +80,5 @@ pub watched-is : (h : Shedder) (m : Memory) (u : unit.Unit) (cost : List ℕ) (t
 unfolding on-watched
 watched-is h m u cost t w f =
     let r = asked-ready h (length (m .rows .tags)) (length (m .rows .units)) (length (m .rows .uses)) (length (m .counted)) cost t (asked h m u cost t f) in
-    ap (λ (b : Bool). cond b (calls.same-name (sender.name-of w) (sender.name-of u)) false) (own-is (m .rows) (h .tracked) (h .«unit_room») u (calls.now (calls.state-of h m) t) (r .tags-room) (r .units-room) (r .tracked-held))
+    ap (λ (b : Bool). cond b (calls.same-name (sender.name-of w) (sender.name-of u)) false) (own-is (m .rows) (h .tracked) (h .«unit_room») u (calls.now (calls.state-of h m) t) (omega (arith, r .tags-room)) (r .units-room) (r .tracked-held))
     ∙ keyed (ltb (entry (m .rows) (h .tracked) (h .«unit_room») u (calls.now (calls.state-of h m) t) .place .at) (h .«unit_room»)) w u

@@ -161,17 +161,7 @@ pub fn turn(
 {
     let which = row[0];
     if which == 0 {
-        return judge_row(
-            head,
-            tags,
-            units,
-            uses,
-            counts,
-            sums,
-            counted,
-            watched,
-            row,
-        );
+        return judge_row(head, tags, units, uses, counts, sums, counted, watched, row);
     }
     if which == 1 {
         return cut_row(head, tags, units, uses, counted, row);

@@ -51,8 +51,8 @@ loop-again c = (
   refl,
   c .next-tagged2 .ensures .1 .1 .1,
   first-past _ _ _ _ (no-tag _ _ _) (search needs) (c .next-tagged2 .ensures .1 .1 .0)
-  (first-next _ _ (c .before .before .before .before .loop .inv .5)
-  (by-row _ _ _ _ _ _ refl (c .before .before .before .before .loop .inv .4 (c .before .before .before .loop-test .taken)) (c .before .before .reads-as .ensures) ∙ c .before .if1 .left)),
+      (first-next _ _ (c .before .before .before .before .loop .inv .5)
+      (by-row _ _ _ _ _ _ refl (c .before .before .before .before .loop .inv .4 (c .before .before .before .loop-test .taken)) (c .before .before .reads-as .ensures) ∙ c .before .if1 .left)),
 )
 
 returns-2 : tie.Need-returns-2 Inv-loop μ-loop

@@ -29,8 +29,10 @@ returns-2 : tie.Need-returns-2
 unfolding pruned pruned-tags
 returns-2 c = (
   simp (le-ltb _ _ (c .before .before .before .before .before .before .before .before .if1 .left), sym (c .before .before .before .before .before .before .keep-from .ensures)) (c .before .before .before .prune .ensures .0),
-  (simp (le-ltb _ _ (c .before .before .before .before .before .before .before .before .if1 .left), sym (c .before .before .before .before .before .before .keep-from .ensures)) (c .before .before .before .prune .ensures .1 .0),
-  (c .before .before .before .prune .ensures .1 .1, λ h. let n = frees-so _ _ _ _ _ (c .before .before .before .before .before .before .keep-from .ensures) (c .before .before .before .prune .ensures .0) (omega arith) (omega arith) in omega arith)),
+  (
+    simp (le-ltb _ _ (c .before .before .before .before .before .before .before .before .if1 .left), sym (c .before .before .before .before .before .before .keep-from .ensures)) (c .before .before .before .prune .ensures .1 .0),
+    (c .before .before .before .prune .ensures .1 .1, λ h. let n = frees-so _ _ _ _ _ (c .before .before .before .before .before .before .keep-from .ensures) (c .before .before .before .prune .ensures .0) (omega arith) (omega arith) in omega arith),
+  ),
 )
 
 pub pruned-spec : {M : Type 1} → statement M

@@ -49,7 +49,7 @@ returns : tie.Need-returns
 unfolding added
 returns c = (
   tallied-is (c .before .before .before .before .before .before .before .before .before .before .before .before .before .before .args .h) (c .added .result) (c .before .before .before .before .before .before .before .before .before .before .before .before .before .before .args .tags .now) _ _ (c .before .before .before .before .before .before .before .before .before .before .before .before .before .before .args .counted .now) _ _ (c .before .before .before .before .before .before .before .before .before .before .count .result) (c .before .before .before .before .pruned .result) (c .before .before .before .before .before .before .before .before .before .before .before .before .before .before .args .name) (c .before .before .before .before .before .before .before .before .before .before .before .before .before .before .args .cause) (c .before .before .before .before .before .before .before .before .before .before .before .before .before .before .args .receptions) (c .before .before .before .before .before .before .before .before .before .before .before .before .before .before .pre .0)
-  (c .before .before .before .before .before .before .before .before .before .before .count .ensures .0) (c .before .before .before .before .before .before .before .before .before .before .count .ensures .1 .0) (c .before .before .before .before .pruned .ensures .0) (c .before .before .before .before .pruned .ensures .1 .0) (c .added .ensures),
+      (c .before .before .before .before .before .before .before .before .before .before .count .ensures .0) (c .before .before .before .before .before .before .before .before .before .before .count .ensures .1 .0) (c .before .before .before .before .pruned .ensures .0) (c .before .before .before .before .pruned .ensures .1 .0) (c .added .ensures),
   (ap (λ (h : Shedder). h .tracked) (c .added .ensures), ap (λ (h : Shedder). h .scan) (c .added .ensures)),
 )
 
