@@ -1,15 +1,15 @@
 -- The scan from its parts. Assumes nothing.
-use mathlib.Core.Path.{_≡_, sym, ap, subst, _∙_}
-use mathlib.Core.Bool.{Bool, true, false}
+use mathlib.Core.Path.{_≡_, refl, sym, ap, subst, _∙_}
+use mathlib.Core.Bool.{Bool, true, false, cond, true≢false}
 use Prim.Native.Nat.{ℕ, _+_, _-_, _≤_}
 use native.Mathlib.Omega.{arith}
-use lib.Dec.{leb}
+use lib.Dec.{leb, ltb}
 use Rattle.store.specs.Store.{Rows, Kept, kept, None, is-stale, retained}
 use Rattle.store.proofs.Places.{Same, retained-before}
 use Rattle.scan.proofs.Turns.{walk-same}
-use Rattle.wants.specs.Wants.{Hist}
+use Rattle.wants.specs.Wants.{Hist, cleared}
 use Rattle.head.specs.declared.Shedder.{Shedder}
-use Rattle.scan.specs.Scanning.{scanning, visited, visit, visit-with, again, ended, ended-at, started, begun, scanned, scanned-from}
+use Rattle.scan.specs.Scanning.{scanning, visited, visit, visit-with, again, ended, ended-at, opened, started, is-idle, begun, scanned, scanned-from}
 use Rattle.head.specs.Numbers.{choose}
 use Rattle.scan.specs.Walking.{walk, walk-overflow}
 
@@ -54,3 +54,16 @@ module _ (h : Shedder) (m : Rows) (g : Hist) where
   unfolding scanned
   scanned-off clock b g1 eB t =
       ap (λ (x : Bool). choose x (ended-at (again (visit (scanning b m g1)))) (scanning b m g1)) (sym t) ∙ ap (scanned-from m) eB
+
+  -- where it is idle all stays
+  idle : (clock : ℕ) → is-idle h clock ≡ true → (leb 1 (h .scan .remaining) ≡ false) × (started h g ≡ begun h g clock)
+  unfolding is-idle begun
+  idle clock e = go (leb 1 (h .scan .remaining)) (ltb clock (h .scan .«began_ms» + 500)) e
+    where
+      go : (b c : Bool) → cond b false c ≡ true → (b ≡ false) × (started h g ≡ choose b (started h g) (choose c (started h g) (started (opened h clock) cleared)))
+      go true c e = absurd (true≢false (sym e))
+      go false true e = (refl, refl)
+      go false false e = absurd (true≢false (sym e))
+
+  pub scanned-idle : (clock : ℕ) → is-idle h clock ≡ true → scanning h m g ≡ scanned (scanning h m g) clock
+  scanned-idle clock e = scanned-off clock h g (idle clock e .1) (idle clock e .0)

@@ -1,5 +1,6 @@
 -- A scan: when it begins, its visits, two tables a judgement, and its end. Definitions only.
 use Prim.Native.Nat.{ℕ, _+_, _-_, _^_, _%_}
+use mathlib.Core.Bool.{Bool, false, cond}
 use lib.Dec.{eqb, leb, ltb}
 use Rattle.store.specs.Store as store
 use Rattle.store.specs.Store.{Rows}
@@ -69,6 +70,10 @@ pub record Started : Type 0 where
 
 abbrev pub started : Shedder → Hist → Started
 started h g = record { head = h; hist = g }
+
+-- none runs, and none is due
+unfoldable pub is-idle : Shedder → ℕ → Bool
+is-idle h clock = cond (leb 1 (h .scan .remaining)) false (ltb clock (h .scan .«began_ms» + 500))
 
 -- none runs, and 500 ms have passed since the last began
 unfoldable pub begun : Shedder → Hist → ℕ → Started

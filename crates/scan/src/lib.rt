@@ -398,6 +398,18 @@ fn begun(
     opened(h, clock)
 }
 
+// Whether no scan is under way and none is due. It is asked first, so that the head is copied no more often than without a scan.
+fn is_idle(h: Shedder, clock: u64) -> bool
+    requires { ⌜ h .scan .«began_ms» < 9007199254740992 ⌝ }
+    ensures { λ r. ⌜ r ≡ scanning.is-idle h clock ⌝ }
+{
+    let s = h.scan;
+    if 1 <= s.remaining {
+        return false;
+    }
+    clock < s.began_ms + 500
+}
+
 pub fn scanned(
     h: Shedder,
     tags: &mut [u16],
@@ -414,6 +426,9 @@ pub fn scanned(
     requires { ⌜ h .scan .remaining + h .scan .next ≤ 64 ⌝ }
     ensures { λ r. ⌜ scanning.scanning r (store.rows (now (tags .exit)) (now (units .exit)) (now (uses .exit))) (wants.hist (now (counts .exit)) (now (sums .exit))) ≡ scanning.scanned (scanning.scanning h (store.rows (now (tags .entry)) (now (units .entry)) (now (uses .entry))) (wants.hist (now (counts .entry)) (now (sums .entry)))) clock ⌝ }
 {
+    if is_idle(h, clock) {
+        return h;
+    }
     let b = begun(h, counts, sums, clock);
     let s = b.scan;
     if 1 <= s.remaining {

@@ -5,7 +5,7 @@ use crate::shed::{self, bits, Cause, Cost, Rates, Unit, HEAD_WORDS};
 use crate::standin::{SOURCES_COUNTED, UNITS_TRACKED};
 use crate::steps::{Random, Step};
 use crate::tankpost::{Bucket, Head, Shedder, Words, OVER_SHARE, RELAY_RATE};
-use crate::units::{hash_of, unit_of, words_of};
+use crate::units::{tag_of, unit_of, words_of};
 use std::sync::atomic::Ordering;
 
 pub struct Both {
@@ -85,7 +85,7 @@ impl Both {
         let mut here = Shedder::new(units, counted);
         if let Some(seed) = any_bits {
             let mut random = Random(seed);
-            here.hashes.fill_with(|| random.word());
+            here.tags.fill_with(|| random.word() as u16);
             here.units.fill_with(|| [(); 7].map(|_| random.word()));
             here.uses.fill_with(|| [(); 4].map(|_| f64::from_bits(random.word())));
             here.counted.fill_with(|| [(); 8].map(|_| random.word()));
@@ -151,13 +151,14 @@ impl Both {
             Step::Record(words, used, fresh) if rust.is_bounded() && h.head.tracked < h.head.unit_room => {
                 let i = h.head.tracked;
                 let unit = unit_of(words);
-                h.hashes[i] = hash_of(unit);
+                h.tags[i] = tag_of(unit);
                 h.units[i] = [words.kind, words.a, words.b, words.c, words.d, used[4], if used[5] != 0 { fresh } else { 0 }];
                 h.uses[i] = [0, 1, 2, 3].map(|k| f64::from_bits(used[k]));
                 h.head.tracked += 1;
                 rust.push_unit(unit, &used);
             }
             Step::Counted(words, counts) if h.head.counted + 1 < h.head.counted_room => {
+                h.tags[h.units.len() + h.head.counted] = tag_of(unit_of(words));
                 h.counted[h.head.counted] = [words.kind, words.a, words.b, words.c, words.d, counts[0], counts[1], counts[2]];
                 h.head.counted += 1;
                 rust.push_counted(unit_of(words), counts);
@@ -229,9 +230,9 @@ impl Both {
     /// The unit's record, where it has one of its own. Overflow's stands in the head.
     fn same_unit(&self, unit: Unit) -> Result<(), String> {
         let Some(rust) = self.rust.as_ref().filter(|_| unit != Unit::Overflow) else { return Ok(()) };
-        let (hash, words) = (hash_of(unit), words_of(unit));
+        let (tag, words) = (tag_of(unit), words_of(unit));
         let h = &self.here;
-        let own = |i: &usize| h.hashes[*i] == hash && row_words(&h.units[*i]) == words;
+        let own = |i: &usize| h.tags[*i] == tag && row_words(&h.units[*i]) == words;
         let here = (0..h.head.tracked).find(own).map(|i| self.record(i).1);
         differs("record", rust.use_words(unit), here)
     }
@@ -242,13 +243,16 @@ impl Both {
         let h = &self.here;
         let mut tables = vec![Vec::new(); 64];
         for i in 0..h.head.tracked {
-            tables[(h.hashes[i] >> 58) as usize].push(self.record(i));
+            tables[usize::from(h.tags[i] >> 10)].push(self.record(i));
         }
         for (i, table) in tables.into_iter().enumerate() {
             differs(&format!("table {i}"), rust.table_words(i), table)?;
         }
         let row = |r: &[u64; 8]| (unit_of(row_words(r)), [r[5], r[6], r[7]]);
-        differs("counted", rust.counted_words(), h.counted[..h.head.counted].iter().map(row).collect())?;
+        let sources = rust.counted_words();
+        let tags: Vec<u16> = sources.iter().map(|(unit, _)| tag_of(*unit)).collect();
+        differs("counted", sources, h.counted[..h.head.counted].iter().map(row).collect())?;
+        differs("tags of the counted", &tags[..], &h.tags[h.units.len()..][..h.head.counted])?;
         for dim in 0..2 {
             let (counts, sums) = rust.wants_words(dim);
             differs("histogram's counts", &counts[..], &h.counts[dim][..])?;
@@ -261,21 +265,22 @@ impl Both {
     /// was used and freed within one call shows only here.
     fn same_free(&mut self, behind: usize) -> Result<(), String> {
         let h = &self.here;
-        let unit_row = |s: &Shedder, i: usize| (s.hashes[i], s.units[i], s.uses[i].map(f64::to_bits));
+        let unit_row = |s: &Shedder, i: usize| (s.tags[i], s.units[i], s.uses[i].map(f64::to_bits));
         let zero = (0, [0; 7], [0; 4]);
-        if self.most[0] < h.hashes.len() && unit_row(h, self.most[0]) == zero {
+        if self.most[0] < h.units.len() && unit_row(h, self.most[0]) == zero {
             self.most[0] += 1;
         }
-        for i in h.head.tracked..h.hashes.len().min(self.most[0].saturating_add(behind)) {
+        for i in h.head.tracked..h.units.len().min(self.most[0].saturating_add(behind)) {
             let expected = if i < self.most[0] { zero } else { unit_row(&self.found, i) };
             differs("a free unit record", expected, unit_row(h, i))?;
         }
-        if self.most[1] < h.counted.len() && h.counted[self.most[1]] == [0; 8] {
+        let counted_row = |s: &Shedder, i: usize| (s.tags[s.units.len() + i], s.counted[i]);
+        if self.most[1] < h.counted.len() && counted_row(h, self.most[1]) == (0, [0; 8]) {
             self.most[1] += 1;
         }
         for i in h.head.counted..h.counted.len().min(self.most[1].saturating_add(behind)) {
-            let expected = if i < self.most[1] { [0; 8] } else { self.found.counted[i] };
-            differs("a free counted record", expected, h.counted[i])?;
+            let expected = if i < self.most[1] { (0, [0; 8]) } else { counted_row(&self.found, i) };
+            differs("a free counted record", expected, counted_row(h, i))?;
         }
         Ok(())
     }

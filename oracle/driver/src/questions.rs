@@ -22,8 +22,13 @@ fn head(h: &Head) -> bool {
         && h.counted <= h.counted_room - 1
 }
 
+/// A tag for each unit record and each counted record.
+fn tags(s: &Shedder) -> bool {
+    s.tags.len() == s.units.len() + s.counted.len()
+}
+
 fn memory(s: &Shedder) -> bool {
-    [s.hashes.len(), s.units.len(), s.uses.len()] == [s.head.unit_room; 3] && s.counted.len() == s.head.counted_room
+    tags(s) && [s.units.len(), s.uses.len()] == [s.head.unit_room; 2] && s.counted.len() == s.head.counted_room
 }
 
 fn first_no(answers: &[(u64, bool)]) -> u64 {
@@ -35,8 +40,8 @@ fn costs(cost: [u64; 2]) -> bool {
 }
 
 pub fn start(s: &Shedder, rate: [u64; 2]) -> u64 {
-    let equal = s.hashes.len() == s.units.len() && s.hashes.len() == s.uses.len();
-    first_no(&[(1, rates(rate)), (2, equal && rooms(s.hashes.len(), s.counted.len()))])
+    let fits = tags(s) && s.uses.len() == s.units.len();
+    first_no(&[(1, rates(rate)), (2, fits && rooms(s.units.len(), s.counted.len()))])
 }
 
 pub fn judge(s: &Shedder, cost: [u64; 2], stamp: u64) -> u64 {

@@ -19,7 +19,7 @@ fn held(s: &Shedder) -> Vec<u8> {
     let fresh = std::mem::offset_of!(crate::tankpost::Head, overflow.fresh);
     let mut out = head[..=fresh].to_vec();
     out.extend(&head[fresh + 8..]);
-    for rows in [bytes_of(&s.hashes), bytes_of(&s.units), bytes_of(&s.uses), bytes_of(&s.counted)] {
+    for rows in [bytes_of(&s.tags), bytes_of(&s.units), bytes_of(&s.uses), bytes_of(&s.counted)] {
         out.extend(rows);
     }
     out.extend(bytes_of(std::slice::from_ref(&*s.counts)));
@@ -30,7 +30,7 @@ fn held(s: &Shedder) -> Vec<u8> {
 /// A shedder after some calls.
 fn used(random: &mut Random) -> Shedder {
     let mut s = Shedder::new(1 + random.below(20), 2 + random.below(8));
-    s.hashes.fill_with(|| random.word());
+    s.tags.fill_with(|| random.word() as u16);
     s.uses.fill_with(|| [(); 4].map(|_| f64::from_bits(random.word())));
     let rate = if random.below(5) == 0 { [u64::MAX; 2] } else { [1 + random.below(50) as u64, 1 + random.below(5_000) as u64] };
     assert_eq!(s.start(rate, [random.sized(), random.sized()]), 0);
@@ -46,7 +46,7 @@ fn spoil(s: &mut Shedder, random: &mut Random) {
     let h = &mut s.head;
     let stamp = random.one(&[STAMP, STAMP + 1, u64::MAX, 0]);
     let size = random.one(&[0, 1, 2, 63, 64, 65, 131_072, 131_073, 4_097, 4_098, usize::MAX]);
-    match random.below(17) {
+    match random.below(18) {
         0 => h.flow.rate[random.below(2)] = random.one(&[0, 1, MOST, MOST + 1, u64::MAX, u64::MAX - 1]),
         1 => h.flow.at_ms = stamp,
         2 => h.scan.at_ms = stamp,
@@ -59,10 +59,11 @@ fn spoil(s: &mut Shedder, random: &mut Random) {
         9 => h.counted_room = size,
         10 => h.tracked = random.one(&[h.unit_room, h.unit_room.wrapping_add(1), size]),
         11 => h.counted = random.one(&[h.counted_room.wrapping_sub(1), h.counted_room, size]),
-        12 => s.hashes.truncate(random.below(22)),
-        13 => s.units.push([0; 7]),
-        14 => s.uses.truncate(random.below(22)),
-        15 => s.counted.push([0; 8]),
+        12 => s.tags.truncate(random.below(30)),
+        13 => s.tags.push(0),
+        14 => s.units.push([0; 7]),
+        15 => s.uses.truncate(random.below(22)),
+        16 => s.counted.push([0; 8]),
         _ => s.counted.truncate(random.below(9)),
     }
 }

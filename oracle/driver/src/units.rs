@@ -38,8 +38,14 @@ pub fn unit_of(w: Words) -> Unit {
     }
 }
 
+/// What a record keeps of the unit's hash: the table, and the ten lowest bits.
+pub fn tag_of(unit: Unit) -> u16 {
+    let hash = hash_of(unit);
+    ((hash >> 58 << 10) | (hash & 1023)) as u16
+}
+
 /// 64-bit FNV-1a over document 01's bytes.
-pub fn hash_of(unit: Unit) -> u64 {
+fn hash_of(unit: Unit) -> u64 {
     let mut bytes = Vec::new();
     match unit {
         Unit::Corroborated(key) => {
