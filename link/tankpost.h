@@ -71,7 +71,7 @@ struct tankpost_level {
     double value;
 };
 
-/* The records: a pointer and a count for each slice. */
+/* The records: a pointer and a count for each slice. There are as many tags as unit records and counted records together. */
 typedef uint64_t tankpost_unit_row[7];
 typedef double tankpost_use_row[2 * TANKPOST_DIMS];
 typedef uint64_t tankpost_counted_row[8];
