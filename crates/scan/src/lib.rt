@@ -48,7 +48,7 @@ fn walk_overflow(
     }
 }
 
-// The record at i, which stands in the table.
+// The record at i, which stands in the table. Its rates are made here: a call of `walk_use` would be handed the whole use in memory.
 fn walk_one(
     tags: &[u16],
     units: &[[u64; 7]],
@@ -64,7 +64,8 @@ fn walk_one(
     requires { ⌜ store.in-table (now tags) table i ≡ true ⌝ }
     ensures { λ r. ⌜ (wants.hist (now (counts .exit)) (now (sums .exit))) ≡ walking.walk-one (store.rows (now (tags .entry)) (now (units .entry)) (now (uses .entry))) table «at_ms» i (wants.hist (now (counts .entry)) (now (sums .entry))) ⌝ }
 {
-    walk_use(counts, sums, store::use_at(units, uses, i), at_ms);
+    let used = store::use_at(units, uses, i);
+    add_all(counts, sums, used.rates(at_ms));
 }
 
 // The table's records are walked up to the first that is stale: where it stands, else n. A visit that drops none reads the

@@ -49,15 +49,30 @@ tally h tags rows = record { head = h; tags = tags; counted = rows }
 abbrev pub source-tags : Tally → List ℕ
 source-tags t = drop (t .head .«unit_room») (t .tags)
 
-abbrev pub tallied-with : Tally → ℕ → ℕ → List ℕ → counts.Sources → Tally
-tallied-with t cause receptions tags n =
-    tally (added (t .head) (counts.pruned n .count) cause receptions) (take (t .head .«unit_room») (t .tags) ++ counts.pruned-tags n tags) (counts.pruned n .rows)
+-- the counted sources: how many, the tags of all records, the rows
+pub record Sourced : Type 0 where
+  pub count : ℕ
+  pub tags : List ℕ
+  pub rows : List (List ℕ)
 
--- a cut is counted under the unit named; then the least counted go where the spare row was taken
+abbrev pub sources : ℕ → List ℕ → List (List ℕ) → Sourced
+sources n tags rows = record { count = n; tags = tags; rows = rows }
+
+abbrev pub sourced-with : List ℕ → List ℕ → counts.Sources → Sourced
+sourced-with front own n = sources (counts.pruned n .count) (front ++ counts.pruned-tags n own) (counts.pruned n .rows)
+
+-- one cut more of the unit named; then the least counted go where the spare row was taken
+abbrev pub sourced : ℕ → List ℕ → List (List ℕ) → ℕ → Name → ℕ → Sourced
+sourced room tags rows had name cause =
+    sourced-with (take room tags) (counts.count-tags (drop room tags) rows had name) (counts.count (drop room tags) rows had name cause)
+
+abbrev pub tallied-by : Tally → ℕ → ℕ → Sourced → Tally
+tallied-by t cause receptions s = tally (added (t .head) (s .count) cause receptions) (s .tags) (s .rows)
+
+-- a cut is counted: in the head under its cause, among the sources under the unit named
 unfoldable pub tallied : Tally → Name → ℕ → ℕ → Tally
 tallied t name cause receptions =
-    tallied-with t cause receptions (counts.count-tags (source-tags t) (t .counted) (t .head .counted) name)
-    (counts.count (source-tags t) (t .counted) (t .head .counted) name cause)
+    tallied-by t cause receptions (sourced (t .head .«unit_room») (t .tags) (t .counted) (t .head .counted) name cause)
 
 -- a verdict that cuts is counted
 unfoldable pub told : Tally → Name → Verdict → List ℕ → Tally

@@ -57,7 +57,26 @@ fn added(h: Shedder, n: usize, cause: usize, receptions: u64) -> Shedder
     r
 }
 
-// A cut is counted, under the unit named; where the spare row was taken, the least counted go.
+// One cut more is counted under the unit named; where the spare row was taken, the least counted go: how many sources there are
+// then. The head stays outside, since it would be copied.
+fn sourced(
+    tags: &mut [u16],
+    counted: &mut [[u64; 8]],
+    room: usize,
+    had: usize,
+    name: Name,
+    cause: usize,
+) -> usize
+    requires { ⌜ room + had < length (now tags) ⌝ }
+    requires { ⌜ had < length (now counted) ⌝ }
+    requires { ⌜ cause < 3 ⌝ }
+    ensures { λ r. ⌜ counting.sources r (now (tags .exit)) (now (counted .exit)) ≡ counting.sourced room (now (tags .entry)) (now (counted .entry)) had name cause ⌝ }
+{
+    let n = counted::count(&mut tags[room..], counted, had, name, cause);
+    counted::pruned(&mut tags[room..], counted, n)
+}
+
+// A cut is counted: in the head under its cause, among the sources under the unit named.
 pub fn tallied(
     h: Shedder,
     tags: &mut [u16],
@@ -73,13 +92,12 @@ pub fn tallied(
     ensures { λ r. ⌜ r .tracked ≡ h .tracked ⌝ }
     ensures { λ r. ⌜ r .scan ≡ h .scan ⌝ }
 {
-    let room = h.unit_room;
-    let n = counted::count(&mut tags[room..], counted, h.counted, name, cause);
-    let kept = counted::pruned(&mut tags[room..], counted, n);
-    added(h, kept, cause, receptions)
+    let n = sourced(tags, counted, h.unit_room, h.counted, name, cause);
+    added(h, n, cause, receptions)
 }
 
-// A verdict that cuts is counted.
+// A verdict that cuts is counted. As in `tallied`, which is written out here: called from two crates it would not be inlined,
+// and an admission would copy the head for a call that it does not make.
 pub fn told(
     h: Shedder,
     tags: &mut [u16],
@@ -97,5 +115,7 @@ pub fn told(
     if is_admitted(verdict) {
         return h;
     }
-    tallied(h, tags, counted, name, cause_of(verdict), cost[0])
+    let cause = cause_of(verdict);
+    let n = sourced(tags, counted, h.unit_room, h.counted, name, cause);
+    added(h, n, cause, cost[0])
 }

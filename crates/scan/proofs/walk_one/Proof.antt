@@ -1,4 +1,4 @@
-use Rattle.scan.specs.Walking.{walk-one}
+use Rattle.scan.specs.Walking.{walk-one, walk-use}
 use mathlib.Core.Path.{sym}
 use borrow.Author.Needs.{needs}
 use Rattle.scan.proofs.walk_one.Statement.{statement}
@@ -7,12 +7,15 @@ use Rattle.scan.proofs.walk_one.Tie as tie
 use-at-requires : tie.Need-use-at-requires
 use-at-requires c κs = search needs
 
-walk-use-requires : tie.Need-walk-use-requires
-walk-use-requires c κs = search needs
+rates-requires : tie.Need-rates-requires
+rates-requires c κs = search needs
+
+add-all-requires : tie.Need-add-all-requires
+add-all-requires c κs = search needs
 
 returns : tie.Need-returns
-unfolding walk-one
-returns c = simp (c .before .before .before .before .before .pre .1 .1, sym (c .before .use-at .ensures)) (c .walk-use .ensures)
+unfolding walk-one walk-use
+returns c = simp (c .before .before .before .before .before .before .pre .1 .1, sym (c .before .before .before .before .use-at .ensures), sym (c .before .rates .ensures)) (c .add-all .ensures)
 
 pub walk-one-spec : {M : Type 1} → statement M
-walk-one-spec = tie.close (tie.spec use-at-requires walk-use-requires returns)
+walk-one-spec = tie.close (tie.spec use-at-requires rates-requires add-all-requires returns)

@@ -1,40 +1,13 @@
-use borrow.Author.Needs.{needs}
-use mathlib.Core.Path.{ap}
-use Rattle.head.specs.declared.Shedder.{Shedder}
-use Rattle.tally.specs.Counting.{added}
 use Rattle.tally.proofs.Tallying.{tallied-is}
+use Rattle.tally.specs.Counting.{added}
+use Rattle.head.specs.declared.Shedder.{Shedder}
+use mathlib.Core.Path.{ap}
+use borrow.Author.Needs.{needs}
 use Rattle.tally.proofs.tallied.Statement.{statement}
 use Rattle.tally.proofs.tallied.Tie as tie
 
-mul-count : tie.Need-mul-count
-mul-count c = search needs
-
-sub-count : tie.Need-sub-count
-sub-count c = search needs
-
-part-count-start : tie.Need-part-count-start
-part-count-start c = search needs
-
-part-count-end : tie.Need-part-count-end
-part-count-end c = search needs
-
-count-requires : tie.Need-count-requires
-count-requires c κs = search needs
-
-mul-pruned : tie.Need-mul-pruned
-mul-pruned c = search needs
-
-sub-pruned : tie.Need-sub-pruned
-sub-pruned c = search needs
-
-part-pruned-start : tie.Need-part-pruned-start
-part-pruned-start c = search needs
-
-part-pruned-end : tie.Need-part-pruned-end
-part-pruned-end c = search needs
-
-pruned-requires : tie.Need-pruned-requires
-pruned-requires c κs = search needs
+sourced-requires : tie.Need-sourced-requires
+sourced-requires c κs = search needs
 
 added-requires : tie.Need-added-requires
 added-requires c κs = search needs
@@ -47,27 +20,8 @@ same-length-2 c = search needs
 
 returns : tie.Need-returns
 unfolding added
-returns c = (
-  tallied-is (c .before .before .before .before .before .before .before .before .before .before .before .before .before .before .args .h) (c .added .result) (c .before .before .before .before .before .before .before .before .before .before .before .before .before .before .args .tags .now) _ _ (c .before .before .before .before .before .before .before .before .before .before .before .before .before .before .args .counted .now) _ _ (c .before .before .before .before .before .before .before .before .before .before .count .result) (c .before .before .before .before .pruned .result) (c .before .before .before .before .before .before .before .before .before .before .before .before .before .before .args .name) (c .before .before .before .before .before .before .before .before .before .before .before .before .before .before .args .cause) (c .before .before .before .before .before .before .before .before .before .before .before .before .before .before .args .receptions) (c .before .before .before .before .before .before .before .before .before .before .before .before .before .before .pre .0)
-      (c .before .before .before .before .before .before .before .before .before .before .count .ensures .0) (c .before .before .before .before .before .before .before .before .before .before .count .ensures .1 .0) (c .before .before .before .before .pruned .ensures .0) (c .before .before .before .before .pruned .ensures .1 .0) (c .added .ensures),
-  (ap (λ (h : Shedder). h .tracked) (c .added .ensures), ap (λ (h : Shedder). h .scan) (c .added .ensures)),
-)
+returns c = (tallied-is (c .before .before .before .before .before .before .before .before .args .h) (c .added .result) (c .before .before .before .before .before .before .before .before .args .tags .now) _ (c .before .before .before .before .before .before .before .before .args .counted .now) _ (c .before .before .before .before .sourced .result) (c .before .before .before .before .before .before .before .before .args .name) (c .before .before .before .before .before .before .before .before .args .cause) (c .before .before .before .before .before .before .before .before .args .receptions) (c .before .before .before .before .sourced .ensures) (c .added .ensures), (ap (λ (h : Shedder). h .tracked) (c .added .ensures), ap (λ (h : Shedder). h .scan) (c .added .ensures)))
 
 pub tallied-spec : {M : Type 1} → statement M
 tallied-spec =
-    tie.close
-    (tie.spec
-    mul-count
-    sub-count
-    part-count-start
-    part-count-end
-    count-requires
-    mul-pruned
-    sub-pruned
-    part-pruned-start
-    part-pruned-end
-    pruned-requires
-    added-requires
-    same-length
-    same-length-2
-    returns)
+    tie.close (tie.spec sourced-requires added-requires same-length same-length-2 returns)

@@ -1,5 +1,7 @@
-use Rattle.tally.specs.Counting.{told}
-use mathlib.Core.Path.{refl, sym}
+use Rattle.tally.proofs.Tallying.{tallied-is}
+use Rattle.tally.specs.Counting.{told, added}
+use Rattle.head.specs.declared.Shedder.{Shedder}
+use mathlib.Core.Path.{refl, sym, ap}
 use borrow.Author.Needs.{needs}
 use Rattle.tally.proofs.told.Statement.{statement}
 use Rattle.tally.proofs.told.Tie as tie
@@ -14,11 +16,14 @@ returns c = (simp (sym (c .before .is-admitted .ensures), c .if1 .taken), (refl,
 cause-of-requires : tie.Need-cause-of-requires
 cause-of-requires c κs = search needs
 
-array-read-tallied : tie.Need-array-read-tallied
-array-read-tallied c = search needs
+sourced-requires : tie.Need-sourced-requires
+sourced-requires c κs = search needs
 
-tallied-requires : tie.Need-tallied-requires
-tallied-requires c κs = search needs
+array-read-added : tie.Need-array-read-added
+array-read-added c = search needs
+
+added-requires : tie.Need-added-requires
+added-requires c κs = search needs
 
 same-length : tie.Need-same-length
 same-length c = search needs
@@ -27,8 +32,8 @@ same-length-2 : tie.Need-same-length-2
 same-length-2 c = search needs
 
 returns-2 : tie.Need-returns-2
-unfolding told
-returns-2 c = (simp (sym (c .before .before .before .before .before .before .before .before .is-admitted .ensures), c .before .before .before .before .before .before .before .if1 .left, sym (c .before .before .before .before .cause-of .ensures .0)) (c .before .before .before .tallied .ensures .0), c .before .before .before .tallied .ensures .1)
+unfolding told added
+returns-2 c = (simp (sym (c .before .before .before .before .before .before .before .before .before .is-admitted .ensures), c .before .before .before .before .before .before .before .before .if1 .left, sym (c .before .before .before .before .before .before .before .cause-of .ensures .0)) (tallied-is (c .before .before .before .before .before .before .before .before .before .before .before .args .h) (c .added .result) (c .before .before .before .before .before .before .before .before .before .before .before .args .tags .now) _ (c .before .before .before .before .before .before .before .before .before .before .before .args .counted .now) _ (c .before .before .before .before .sourced .result) (c .before .before .before .before .before .before .before .before .before .before .before .args .name) (c .before .before .before .before .before .before .before .cause-of .result) _ (c .before .before .before .before .sourced .ensures) (c .added .ensures)), (ap (λ (h : Shedder). h .tracked) (c .added .ensures), ap (λ (h : Shedder). h .scan) (c .added .ensures)))
 
 pub told-spec : {M : Type 1} → statement M
 told-spec =
@@ -37,8 +42,9 @@ told-spec =
     is-admitted-requires
     returns
     cause-of-requires
-    array-read-tallied
-    tallied-requires
+    sourced-requires
+    array-read-added
+    added-requires
     same-length
     same-length-2
     returns-2)
