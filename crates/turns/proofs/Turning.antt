@@ -14,32 +14,40 @@ use Rattle.fair.specs.Calls.{State, Call, Read}
 use Rattle.turns.specs.declared.Turned.{Turned}
 use Rattle.turns.specs.Replay.{judge-in, cut-in, reading-in, call-in, page-after, read-page, run-after, run, Turns}
 
-pub call-judge : (row page : List ℕ) → eqb (getD row 0 0) 0 ≡ true → judge-in row ≡ call-in row page
+call-judge : (row page : List ℕ) → eqb (getD row 0 0) 0 ≡ true → judge-in row ≡ call-in row page
 unfolding call-in
 call-judge row page e = rw e
 
-pub call-cut : (row page : List ℕ) → eqb (getD row 0 0) 0 ≡ false → eqb (getD row 0 0) 1 ≡ true → cut-in row ≡ call-in row page
+call-cut : (row page : List ℕ) → eqb (getD row 0 0) 0 ≡ false → eqb (getD row 0 0) 1 ≡ true → cut-in row ≡ call-in row page
 unfolding call-in
 call-cut row page e f = rw (e, f)
 
-pub call-read : (row page : List ℕ) → eqb (getD row 0 0) 0 ≡ false → eqb (getD row 0 0) 1 ≡ false → Read (reading-in row page) ≡ call-in row page
+call-read : (row page : List ℕ) → eqb (getD row 0 0) 0 ≡ false → eqb (getD row 0 0) 1 ≡ false → Read (reading-in row page) ≡ call-in row page
 unfolding call-in
 call-read row page e f = rw (e, f)
 
-pub turns-as : (watched : unit.Unit) (s : State) (c d : Call) (r : Turned) (t : State) → c ≡ d → Turns watched s c r t → Turns watched s d r t
+-- what the call of a row leaves, as that of the row's kind, and the buffer: only a reading can write it
+turns-as : (watched : unit.Unit) (s : State) (c d : Call) (r : Turned) (t : State) → c ≡ d → Turns watched s c r t → Turns watched s d r t
 turns-as watched s c d r t e f = subst (λ (x : Call). Turns watched s x r t) e f
 
--- ---- the buffer: only a reading can write it
-pub judge-page : (s : State) (row page : List ℕ) (c : Call) → judge-in row ≡ c → page ≡ page-after s c page
-unfolding judge-in
-judge-page s row page c e = ap (λ (x : Call). page-after s x page) e
+module _ (watched : unit.Unit) (s : State) (row page : List ℕ) (r : Turned) (t : State) where
+  pub judge-turn : eqb (getD row 0 0) 0 ≡ true → Turns watched s (judge-in row) r t → Turns watched s (call-in row page) r t × (page ≡ page-after s (call-in row page) page)
+  unfolding judge-in
+  judge-turn e f =
+      let k : judge-in row ≡ call-in row page = call-judge row page e in
+      (turns-as watched s (judge-in row) (call-in row page) r t k f, ap (λ (x : Call). page-after s x page) k)
 
-pub cut-page : (s : State) (row page : List ℕ) (c : Call) → cut-in row ≡ c → page ≡ page-after s c page
-unfolding cut-in
-cut-page s row page c e = ap (λ (x : Call). page-after s x page) e
+  pub cut-turn : eqb (getD row 0 0) 0 ≡ false → eqb (getD row 0 0) 1 ≡ true → Turns watched s (cut-in row) r t → Turns watched s (call-in row page) r t × (page ≡ page-after s (call-in row page) page)
+  unfolding cut-in
+  cut-turn e1 e2 f =
+      let k : cut-in row ≡ call-in row page = call-cut row page e1 e2 in
+      (turns-as watched s (cut-in row) (call-in row page) r t k f, ap (λ (x : Call). page-after s x page) k)
 
-pub read-page-is : (s : State) (row page out : List ℕ) (c : Call) → Read (reading-in row page) ≡ c → out ≡ read-page s (reading-in row page) page → out ≡ page-after s c page
-read-page-is s row page out c e f = f ∙ ap (λ (x : Call). page-after s x page) e
+  pub read-turn : (out : List ℕ) → eqb (getD row 0 0) 0 ≡ false → eqb (getD row 0 0) 1 ≡ false → Turns watched s (Read (reading-in row page)) r t → out ≡ read-page s (reading-in row page) page
+      → Turns watched s (call-in row page) r t × (out ≡ page-after s (call-in row page) page)
+  read-turn out e1 e2 f g =
+      let k : Read (reading-in row page) ≡ call-in row page = call-read row page e1 e2 in
+      (turns-as watched s (Read (reading-in row page)) (call-in row page) r t k f, g ∙ ap (λ (x : Call). page-after s x page) k)
 
 -- ---- the list
 pub headed : (x y : Shedder) (m : Memory) (s : State) → x ≡ y → calls.state-of y m ≡ s → calls.state-of x m ≡ s

@@ -1,4 +1,4 @@
-use Rattle.turns.proofs.Amounts.{row-cut, cut-left, cut-number-is, cut-admits, cut-on, cut-hands}
+use Rattle.turns.proofs.Amounts.{cut-turns}
 use borrow.Author.Needs.{needs}
 use Rattle.turns.proofs.cut_row.Statement.{statement}
 use Rattle.turns.proofs.cut_row.Tie as tie
@@ -43,17 +43,7 @@ same-length-4 : tie.Need-same-length-4
 same-length-4 c = search needs
 
 returns : tie.Need-returns
-returns c =
-    let cut = c .before .before .before .before .before .before .before .before .before .cut .ensures .0 in
-    let cost = c .before .before .before .before .before .before .before .before .before .before .before .before .before .before .before .cost-in .ensures in
-    let k = row-cut _ _ _ _ _ (c .before .before .before .before .before .before .before .before .before .before .before .before .before .before .before .before .before .words-in .ensures) (c .before .before .before .before .before .before .before .before .before .before .before .before .before .before .before .before .unit-of .ensures) cost (c .before .before .before .before .before .before .before .before .before .before .before .before .before .before .cause-of .ensures) in
-    λ watched g. record {
-      left = cut-left _ _ g _ _ _ _ _ _ _ _ k cut;
-      number = cut-number-is _ _ g _ _ _ _ _ _ _ _ k cut _ (c .before .before .cut-number .ensures);
-      admitted = cut-admits _ _ g _ _ _ _ _ _ _ _ k cut;
-      handed = cut-hands _ _ g _ _ _ _ _ _ _ _ k cut _ _ cost (c .before .index-of .ensures .0) (c .counted-if .ensures);
-      admitted-on = λ z. cut-on _ _ g _ _ _ _ _ _ _ _ k cut watched;
-    }
+returns c = cut-turns (c .before .before .before .before .before .before .before .before .before .before .before .before .before .before .before .before .before .before .before .args .head) _ _ _ (c .before .before .before .before .before .before .before .before .before .before .before .before .before .before .before .before .before .words-in .result) (c .before .before .before .before .before .before .before .before .before .before .before .before .before .before .before .before .unit-of .result) (c .before .before .before .before .before .before .before .before .before .before .before .before .before .before .cause-of .result) (c .before .before .before .before .before .before .before .before .before .before .before .before .before .before .before .cost-in .result) (c .before .before .before .before .before .before .before .before .before .cut .result) _ _ (c .before .index-of .result) (c .counted-if .result) (c .before .before .cut-number .result) (c .before .before .before .before .before .before .before .before .before .before .before .before .before .before .before .before .before .words-in .ensures) (c .before .before .before .before .before .before .before .before .before .before .before .before .before .before .before .before .unit-of .ensures) (c .before .before .before .before .before .before .before .before .before .before .before .before .before .before .before .cost-in .ensures) (c .before .before .before .before .before .before .before .before .before .before .before .before .before .before .cause-of .ensures) (c .before .before .before .before .before .before .before .before .before .cut .ensures .0) (c .before .before .cut-number .ensures) (c .before .index-of .ensures .0) (c .counted-if .ensures)
 
 pub cut-row-spec : {M : Type 1} → statement M
 cut-row-spec =

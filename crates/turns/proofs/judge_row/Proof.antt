@@ -1,4 +1,4 @@
-use Rattle.turns.proofs.Amounts.{row-judge, judge-left, judge-number-is, judge-admits, judge-on, judge-hands}
+use Rattle.turns.proofs.Amounts.{judge-turns}
 use borrow.Author.Needs.{needs}
 use Rattle.turns.proofs.judge_row.Statement.{statement}
 use Rattle.turns.proofs.judge_row.Tie as tie
@@ -46,19 +46,7 @@ same-length-4 : tie.Need-same-length-4
 same-length-4 c = search needs
 
 returns : tie.Need-returns
-returns c =
-    let judged = c .before .before .before .before .before .before .before .before .before .before .judge .ensures .0 in
-    let cost = c .before .before .before .before .before .before .before .before .before .before .before .before .before .before .before .before .before .before .before .before .cost-in .ensures in
-    let number = c .before .before .before .judge-number .ensures in
-    let k = row-judge _ _ _ _ (c .before .before .before .before .before .before .before .before .before .before .before .before .before .before .before .before .before .before .before .before .before .before .words-in .ensures) (c .before .before .before .before .before .before .before .before .before .before .before .before .before .before .before .before .before .before .before .before .before .unit-of .ensures) cost in
-    let a = judge-admits _ _ _ _ _ _ _ k judged _ _ cost (c .before .before .is-admitted .ensures) (c .before .counted-if .ensures) in
-    record {
-      left = judge-left _ _ _ _ _ _ _ k judged;
-      number = judge-number-is _ _ _ _ _ _ _ k judged _ number;
-      admitted = a;
-      handed = judge-hands _ _ _ _ _ _ _ k judged;
-      admitted-on = λ z. judge-on _ _ _ _ _ _ _ k judged _ _ _ _ _ (c .before .before .before .before .before .before .before .before .before .before .before .before .before .before .before .before .before .on-watched .ensures) a (c .counted-if2 .ensures) number z;
-    }
+returns c = judge-turns (c .before .before .before .before .before .before .before .before .before .before .before .before .before .before .before .before .before .before .before .before .before .before .before .before .args .head) _ _ (c .before .before .before .before .before .before .before .before .before .before .before .before .before .before .before .before .before .before .before .before .before .before .words-in .result) (c .before .before .before .before .before .before .before .before .before .before .before .before .before .before .before .before .before .before .before .before .before .unit-of .result) (c .before .before .before .before .before .before .before .before .before .before .before .before .before .before .before .before .before .before .before .before .cost-in .result) (c .before .before .before .before .before .before .before .before .before .before .judge .result) _ (c .before .before .before .before .before .before .before .before .before .before .before .before .before .before .before .before .before .before .before .before .before .before .before .before .args .watched) (c .before .before .before .before .before .before .before .before .before .before .before .before .before .before .before .before .before .on-watched .result) (c .before .before .is-admitted .result) (c .before .counted-if .result) (c .counted-if2 .result) (c .before .before .before .judge-number .result) (c .before .before .before .before .before .before .before .before .before .before .before .before .before .before .before .before .before .before .before .before .before .before .words-in .ensures) (c .before .before .before .before .before .before .before .before .before .before .before .before .before .before .before .before .before .before .before .before .before .unit-of .ensures) (c .before .before .before .before .before .before .before .before .before .before .before .before .before .before .before .before .before .before .before .before .cost-in .ensures) (c .before .before .before .before .before .before .before .before .before .before .before .before .before .before .before .before .before .on-watched .ensures) (c .before .before .before .before .before .before .before .before .before .before .judge .ensures .0) (c .before .before .before .judge-number .ensures) (c .before .before .is-admitted .ensures) (c .before .counted-if .ensures) (c .counted-if2 .ensures)
 
 pub judge-row-spec : {M : Type 1} → statement M
 judge-row-spec =

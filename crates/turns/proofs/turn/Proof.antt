@@ -1,5 +1,5 @@
 use borrow.Author.Tests.{eq-eqb, ne-eqb}
-use Rattle.turns.proofs.Turning.{call-judge, call-cut, call-read, turns-as, judge-page, cut-page, read-page-is}
+use Rattle.turns.proofs.Turning.{judge-turn, cut-turn, read-turn}
 use borrow.Author.Needs.{needs}
 use Rattle.turns.proofs.turn.Statement.{statement}
 use Rattle.turns.proofs.turn.Tie as tie
@@ -23,9 +23,7 @@ same-length-4 : tie.Need-same-length-4
 same-length-4 c = search needs
 
 returns : tie.Need-returns
-returns c =
-    let k = call-judge _ _ (eq-eqb _ 0 (c .before .before .before .before .before .before .before .before .before .before .before .before .if1 .taken)) in
-    (turns-as _ _ _ _ _ _ k (c .before .before .before .before .before .judge-row .ensures), judge-page _ _ _ _ k)
+returns c = judge-turn _ _ _ _ (c .before .before .before .before .before .judge-row .result) _ (eq-eqb _ 0 (c .before .before .before .before .before .before .before .before .before .before .before .before .if1 .taken)) (c .before .before .before .before .before .judge-row .ensures)
 
 cut-row-requires : tie.Need-cut-row-requires
 cut-row-requires c κs = search needs
@@ -43,9 +41,7 @@ same-length-8 : tie.Need-same-length-8
 same-length-8 c = search needs
 
 returns-2 : tie.Need-returns-2
-returns-2 c =
-    let k = call-cut _ _ (ne-eqb _ 0 (c .before .before .before .before .before .before .before .before .before .before .before .if1 .left)) (eq-eqb _ 1 (c .before .before .before .before .before .before .before .before .before .before .if2 .taken)) in
-    (turns-as _ _ _ _ _ _ k (c .before .before .before .before .before .cut-row .ensures _ _), cut-page _ _ _ _ k)
+returns-2 c = cut-turn _ _ _ _ (c .before .before .before .before .before .cut-row .result) _ (ne-eqb _ 0 (c .before .before .before .before .before .before .before .before .before .before .before .if1 .left)) (eq-eqb _ 1 (c .before .before .before .before .before .before .before .before .before .before .if2 .taken)) (c .before .before .before .before .before .cut-row .ensures _ _)
 
 read-row-requires : tie.Need-read-row-requires
 read-row-requires c κs = search needs
@@ -69,9 +65,7 @@ same-length-13 : tie.Need-same-length-13
 same-length-13 c = search needs
 
 returns-3 : tie.Need-returns-3
-returns-3 c =
-    let k = call-read _ _ (ne-eqb _ 0 (c .before .before .before .before .before .before .before .before .before .before .if1 .left)) (ne-eqb _ 1 (c .before .before .before .before .before .before .before .before .before .if2 .left)) in
-    (turns-as _ _ _ _ _ _ k (c .turned-by-reading .ensures .1 _ _ _ (c .before .before .before .read-row .ensures .0 _)), read-page-is _ _ _ _ _ k (c .before .before .before .read-row .ensures .1 _))
+returns-3 c = read-turn _ _ _ _ (c .turned-by-reading .result) _ _ (ne-eqb _ 0 (c .before .before .before .before .before .before .before .before .before .before .if1 .left)) (ne-eqb _ 1 (c .before .before .before .before .before .before .before .before .before .if2 .left)) (c .turned-by-reading .ensures .1 _ _ _ (c .before .before .before .read-row .ensures .0 _)) (c .before .before .before .read-row .ensures .1 _)
 
 pub turn-spec : {M : Type 1} → statement M
 turn-spec =
