@@ -76,7 +76,8 @@ pub fn since(now: u64, at: u64) -> u64
     if at < now { now - at } else { 0 }
 }
 
-fn later(a: u64, b: u64) -> u64
+// The later of two stamps.
+pub fn later(a: u64, b: u64) -> u64
     ensures { λ r. ⌜ r ≡ max a b ⌝ }
 {
     if a < b { b } else { a }

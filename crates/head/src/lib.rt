@@ -1,7 +1,7 @@
 // The head of the Shedder: document 01's questions about it, and the start.
 ghost use mathlib.Core.Path.{_≡_};
 ghost use mathlib.Core.Bool.{_&&_};
-ghost use Prim.Native.Nat.{_<_, _-_};
+ghost use Prim.Native.Nat.{_<_};
 ghost use lib.ListN.{length};
 ghost use Rattle.wants.specs.Wants as wants;
 ghost use Rattle.head.specs.Numbers as numbers;
@@ -139,13 +139,6 @@ fn either(a: bool, b: bool) -> bool
     ensures { λ r. ⌜ r ≡ numbers.or a b ⌝ }
 {
     if a { true } else { b }
-}
-
-// The time from `at` to `now`, 0 where it lies ahead.
-pub fn since(now: u64, at: u64) -> u64
-    ensures { λ r. ⌜ r ≡ now - at ⌝ }
-{
-    if at < now { now - at } else { 0 }
 }
 
 // ---- the questions

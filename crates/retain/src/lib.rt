@@ -5,12 +5,6 @@ ghost use lib.ListN.{length};
 ghost use Rattle.store.specs.Store as store;
 use flow::DIMS;
 
-fn since(now: u64, at: u64) -> u64
-    ensures { λ r. ⌜ r ≡ store.since now at ⌝ }
-{
-    if at < now { now - at } else { 0 }
-}
-
 // Of the table and older than 8,000 milliseconds. The table is asked first: it reads the tag alone.
 pub fn is_stale(tags: &[u16], units: &[[u64; 7]], i: usize, table: usize, at_ms: u64) -> bool
     requires { ⌜ i < length (now tags) ⌝ }
@@ -18,7 +12,7 @@ pub fn is_stale(tags: &[u16], units: &[[u64; 7]], i: usize, table: usize, at_ms:
     ensures { λ r. ⌜ r ≡ store.is-stale (now (tags .entry)) (now (units .entry)) table «at_ms» i ⌝ }
 {
     if store::table_at(tags, i) == table {
-        8000 < since(at_ms, store::stamp_at(units, i))
+        8000 < flow::since(at_ms, store::stamp_at(units, i))
     } else {
         false
     }

@@ -319,7 +319,7 @@ fn number(n: u64) -> f64
 fn span_of(now: u64, at: u64) -> f64
     ensures { λ r. ⌜ r ≡ trimming.span-of now at ⌝ }
 {
-    number(head::since(now, at)) / 1000.0
+    number(flow::since(now, at)) / 1000.0
 }
 
 fn trimmed(h: Shedder, counts: &[[u32; 768]; DIMS], sums: &[[f64; 768]; DIMS]) -> Shedder

@@ -1,6 +1,6 @@
 // A judgement: the head by value, the records lent.
 ghost use mathlib.Core.Path.{_≡_};
-ghost use Prim.Native.Nat.{_≤_, _^_, max};
+ghost use Prim.Native.Nat.{_≤_, _^_};
 ghost use lib.ListN.{length};
 ghost use Rattle.sender.specs.Sender as sender;
 ghost use Rattle.store.specs.Store as store;
@@ -22,13 +22,6 @@ use verdict::Verdict;
 pub struct Judgement {
     pub answer: Answer,
     pub head: Shedder,
-}
-
-// The later of two stamps.
-fn later(a: u64, b: u64) -> u64
-    ensures { λ r. ⌜ r ≡ max a b ⌝ }
-{
-    if a < b { b } else { a }
 }
 
 // What was admitted so far, and this cost.
@@ -74,7 +67,7 @@ fn outcome(
         buckets,
         used,
         now,
-        head::since(now, f.at_ms),
+        flow::since(now, f.at_ms),
         cost,
         fill,
         level,
@@ -86,7 +79,7 @@ fn outcome(
 fn admitted_then(verdict: Verdict, admitted: [f64; DIMS], cost: [f64; DIMS]) -> [f64; DIMS]
     ensures { λ r. ⌜ r ≡ judging.admitted-then verdict admitted cost ⌝ }
 {
-    if tally::is_admitted(verdict) {
+    if verdict::is_admitted(verdict) {
         raised(admitted, cost)
     } else {
         admitted
@@ -200,7 +193,7 @@ fn bounded(
     ensures { λ r. ⌜ answers.judge-number (r .answer) ≡ 0 ⌝ }
 {
     let f = head.flow;
-    let clock = later(stamp, f.at_ms);
+    let clock = flow::later(stamp, f.at_ms);
     let p = judged(
         head,
         tags,

@@ -2,24 +2,12 @@
 ghost use mathlib.Core.Path.{_≡_};
 ghost use Prim.Native.Nat.{_<_, _+_};
 ghost use lib.ListN.{length};
-ghost use Rattle.verdict.specs.Verdict as verdicts;
 ghost use Rattle.tally.specs.Counting as counting;
 use flow::DIMS;
 use head::CAUSES;
 use head::Shedder;
 use sender::Name;
 use verdict::Verdict;
-
-// Whether a verdict admits.
-pub fn is_admitted(verdict: Verdict) -> bool
-    ensures { λ r. ⌜ r ≡ verdicts.is-admitted verdict ⌝ }
-{
-    match verdict {
-        Verdict::Admitted => true,
-        Verdict::OverShare => false,
-        Verdict::RelayRate => false,
-    }
-}
 
 // A cause's place among the counts.
 fn cause_of(verdict: Verdict) -> usize
@@ -112,7 +100,7 @@ pub fn told(
     ensures { λ r. ⌜ r .tracked ≡ h .tracked ⌝ }
     ensures { λ r. ⌜ r .scan ≡ h .scan ⌝ }
 {
-    if is_admitted(verdict) {
+    if verdict::is_admitted(verdict) {
         return h;
     }
     let cause = cause_of(verdict);

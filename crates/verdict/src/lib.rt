@@ -165,7 +165,8 @@ pub struct Outcome {
     pub used: Use,
 }
 
-fn is_admitted(verdict: Verdict) -> bool
+// Whether a verdict admits.
+pub fn is_admitted(verdict: Verdict) -> bool
     ensures { λ r. ⌜ r ≡ verdicts.is-admitted verdict ⌝ }
 {
     match verdict {
