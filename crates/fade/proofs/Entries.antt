@@ -10,9 +10,8 @@ use lib.Ieee.{Float, nan, inf, fin, binary64, round, toBits, ofBits, isNan, nanB
 use lib.Ieee.Fits.{round-fits}
 use lib.Ieee.Bits.{ofBits-toBits, nanBits-is}
 use lib.Ieee.Positive.{num, den, positive}
-use Rattle.fade.specs.Exp.{top, bot, cap, terms}
+use Rattle.fade.specs.Exp.{top, bot, cap, terms, Late}
 use Rattle.fade.specs.Fade.{nearest}
-use Rattle.fade.proofs.Rounded.{Rounded}
 use Rattle.fade.proofs.Table.{both, both-left, both-right}
 
 -- ---- the sums after m terms more, term by term: s is the sum so far, t the last power of p and b the bottom. (`top` as it stands would raise p to each power anew.)
@@ -55,6 +54,14 @@ ends w s t b = both (eqb (toBits binary64 (round binary64 false b (s + t))) w) (
 unfoldable pub good : ℕ → ℕ → ℕ → ℕ → Bool
 unfolding run sized ends ofBits
 good k q p w = both (sized k (ofBits binary64 w)) (both (leb (p * 2) (q * suc (terms p q))) (run p q (terms p q) 0 1 1 1 (ends w)))
+
+-- an enclosure bot / cap ≤ exp(-p / q) ≤ bot / top is so narrow that both of its ends round to x
+pub record Rounded (p q : ℕ) (x : Float) : Type 0 where
+  pub above : T (positive x)
+  pub n : ℕ
+  pub late : Late p q n
+  pub low : round binary64 false (bot q n) (cap p q n) ≡ x
+  pub high : round binary64 false (bot q n) (top p q n) ≡ x
 
 -- ---- what such an entry is
 pub record Entry (k q p : ℕ) (x : Float) : Type 0 where

@@ -1,12 +1,5 @@
-pub mod Cauchy
 pub mod Entries
-pub mod Faded
-pub mod Laws
-pub mod Middle
-pub mod Product
-pub mod Rounded
-pub mod Rounding
-pub mod Series
+pub mod Sides
 pub mod Table
 pub mod TableA
 pub mod TableB

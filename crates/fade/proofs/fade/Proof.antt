@@ -2,7 +2,7 @@
 use mathlib.Core.Path.{sym, ap₂, _∙_}
 use borrow.Author.Needs.{needs}
 use lib.Ieee.{binary64, ofBits, mul}
-use Rattle.fade.proofs.Laws.{during, after}
+use Rattle.fade.proofs.Sides.{during, after}
 use Rattle.fade.proofs.fade.Statement.{statement}
 use Rattle.fade.proofs.fade.Tie as tie
 

@@ -7,18 +7,11 @@ use lib.Dec.{T}
 use lib.Ieee.{Float, Format, binary64, prec, low, round}
 use lib.Ieee.Scale.{grid, overflow, round-val, finite, round-under, normal-of-rounded}
 use lib.Ieee.Positive.{num, den, positive, positive-finite, value→cross}
-use Rattle.fade.specs.Exp.{top, bot, cap, Late}
-use Rattle.fade.specs.Laws.{Close}
-use Rattle.fade.proofs.Series.{bot-pos, top-pos, top-le-cap, late, capped}
-use Rattle.fade.proofs.Rounding.{Near, round-near}
-
--- an enclosure bot / cap ≤ exp(-p / q) ≤ bot / top is so narrow that both of its ends round to x
-pub record Rounded (p q : ℕ) (x : Float) : Type 0 where
-  pub above : T (positive x)
-  pub n : ℕ
-  pub late : Late p q n
-  pub low : round binary64 false (bot q n) (cap p q n) ≡ x
-  pub high : round binary64 false (bot q n) (top p q n) ≡ x
+use Rattle.fade.specs.Exp.{top, bot, cap}
+use Rattle.fade.proofs.Entries.{Rounded}
+use Rattle.fading.specs.Laws.{Close}
+use Rattle.fading.proofs.Series.{bot-pos, top-pos, top-le-cap, late, capped}
+use Rattle.fading.proofs.Rounding.{Near, round-near}
 
 pub cap-pos : (p q n : ℕ) → 0 < q → 0 < cap p q n
 cap-pos p q n Q = lt-of-lt-of-le (top-pos p q n Q) (top-le-cap p q n)

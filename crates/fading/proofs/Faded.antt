@@ -12,12 +12,12 @@ use lib.Ieee.Fits.{up-pos}
 use lib.Ieee.Order.{round-mono}
 use lib.Ieee.Scale.{normal-of-fraction, round-under}
 use lib.Ieee.Positive.{num, den, den-pos, positive, positive-finite, own-value, value-pos, mul-at, between}
-use Rattle.fade.specs.Laws.{Nearest, Close, parts}
-use Rattle.fade.proofs.Rounding.{Near, round-near}
-use Rattle.fade.proofs.Rounded.{Normal, rounded-close}
-use Rattle.fade.proofs.Middle.{rounded-nearest}
-use Rattle.fade.proofs.Product.{product-close, close-factor, close-falls}
+use Rattle.fading.specs.Laws.{Nearest, Close, parts}
+use Rattle.fading.proofs.Rounding.{Near, round-near}
+use Rattle.fading.proofs.Rounded.{Normal, rounded-close}
+use Rattle.fading.proofs.Middle.{rounded-nearest}
+use Rattle.fading.proofs.Product.{product-close, close-factor, close-falls}
 use Rattle.fade.proofs.Entries.{Entry}
 
 -- ---- a fraction from 2 ^ -k to 1, with k + 52 at most 1074, rounds to a double above 0 and to a normal one
 lowest-positive : T (positive (round binary64 false 1 (2 ^ 1020)))

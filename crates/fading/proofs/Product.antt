@@ -8,11 +8,11 @@ use native.Mathlib.Omega.{arith}
 use lib.Dec.{T, lt→ltb}
 use lib.Ieee.{Float, nan, inf, fin, lt, up, down}
 use lib.Ieee.Positive.{num, den, den-pos, positive, own-value, value-pos}
 use Rattle.fade.specs.Exp.{top, bot}
-use Rattle.fade.specs.Laws.{Close}
-use Rattle.fade.proofs.Series.{bot-pos, top-pos, top-factor, bot-factor}
-use Rattle.fade.proofs.Cauchy.{product-above, product-below}
-use Rattle.fade.proofs.Rounding.{Near}
+use Rattle.fading.specs.Laws.{Close}
+use Rattle.fading.proofs.Series.{bot-pos, top-pos, top-factor, bot-factor}
+use Rattle.fading.proofs.Cauchy.{product-above, product-below}
+use Rattle.fading.proofs.Rounding.{Near}
 
 -- ---- the bounds with one factor: x * P + x is x * (P + 1), and what is at most y + x after one x is taken off
 one-more : (x P y : ℕ) → y ≤ x * P + x → y ≤ x * suc P

@@ -1,32 +1,25 @@
 -- What specs/Laws.antt states of the series and of the fade, from the tables' tests. Assumes nothing.
-use mathlib.Core.Path.{_≡_, subst}
+use mathlib.Core.Path.{subst}
 use mathlib.Core.Bool.{false, not}
 use Prim.Native.Nat.{ℕ, _-_, _/_, _%_, _≤_, _<_}
 use native.Mathlib.Nat.{mod-lt}
 use native.Mathlib.Omega.{arith}
 use native.Mathlib.Decide.{decLe}
-use borrow.Author.Tests.{lt-ltb, le-ltb}
 use lib.IntN.{pos}
 use lib.Dec.{T, ltb, lit≤, lit<}
 use lib.Ieee.{fin, binary64, mul, lt, fits, isNan}
 use lib.Ieee.Fits.{cond-fits, mul-fits}
 use Rattle.fade.specs.Fade.{nearest, long, end, fade}
-use Rattle.fade.specs.Laws.{Series, Fading}
-use Rattle.fade.proofs.Series.{capped, narrows}
+use Rattle.fading.specs.Laws.{Series, Fading}
+use Rattle.fading.proofs.Series.{capped, narrows}
+use Rattle.fade.proofs.Sides.{during, after}
 use Rattle.fade.proofs.Entries.{Entry, entry-at, positive-number}
-use Rattle.fade.proofs.Faded.{Faded, entry-nearest, faded, during-falls, above-zero}
+use Rattle.fading.proofs.Faded.{Faded, entry-nearest, faded, during-falls, above-zero}
 use Rattle.fade.proofs.TableA as A
 use Rattle.fade.proofs.TableB as B
 
 pub series : Series
 series = record { encloses = capped; narrows = narrows }
-
--- ---- the two sides of the end
-pub during : (d : ℕ) → d < end → fade d ≡ mul binary64 (nearest (d % 2000) 2000) (nearest (d / 2000) 1)
-during d h = unfold fade in rw (lt-ltb d end h)
-
-pub after : (d : ℕ) → end ≤ d → fade d ≡ fin false 0 (pos 0)
-after d h = unfold fade in rw (le-ltb d end h)
 
 -- ---- the entries
 short : (r : ℕ) → r < 2000 → Entry A.least 2000 r (nearest r 2000)

@@ -13,11 +13,12 @@ use lib.Ieee.Nearest.{nearest-ge}
 use lib.Ieee.Order.{drop, kept}
 use lib.Ieee.Scale.{grid, round-val, finite, round-under, normal-of-rounded, round-same}
 use lib.Ieee.Positive.{num, den, den-pos, positive, positive-finite, value→cross}
 use Rattle.fade.specs.Exp.{top, bot, cap}
-use Rattle.fade.specs.Laws.{Nearest}
-use Rattle.fade.proofs.Series.{bot-pos, top-pos, top-zero, cap-zero, later, under-strict, over-strict}
-use Rattle.fade.proofs.Rounding.{closest-half, unit-small}
-use Rattle.fade.proofs.Rounded.{Rounded, Normal, cap-pos}
+use Rattle.fading.specs.Laws.{Nearest}
+use Rattle.fading.proofs.Series.{bot-pos, top-pos, top-zero, cap-zero, later, under-strict, over-strict}
+use Rattle.fading.proofs.Rounding.{closest-half, unit-small}
+use Rattle.fade.proofs.Entries.{Rounded}
+use Rattle.fading.proofs.Rounded.{Normal, cap-pos}
 
 -- ---- a double above 0 is m * 2 ^ t units of the smallest, with m of no more digits than the format keeps
 record Units (f : Format) (y : Float) : Type 0 where
