@@ -8,7 +8,7 @@ use lib.Ieee.{Float, fin, binary64, round, mul}
 use Rattle.fade.specs.Exp.{bot, cap, terms}
 
 -- The double nearest exp(-p / q): the lower end of an enclosure, rounded to the nearest double.
--- At each p / q that the fade uses the upper end rounds to the same double, and no other double is nearer (`Nearest` of specs/Laws.antt).
+-- At each p / q that the fade uses the upper end rounds to the same double, and no other double is nearer (`Nearest` of the crate fading).
 unfoldable pub nearest : ℕ → ℕ → Float
 unfolding bot cap round
 nearest p q = round binary64 false (bot q (terms p q)) (cap p q (terms p q))
