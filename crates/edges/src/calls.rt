@@ -76,8 +76,8 @@ fn cut(
     tries::after(numbers::cut_number(answer), now)
 }
 
-// The calls of the report. The number of a report is told by the call beside it; a report that is refused has an empty
-// front part.
+// The report, as the front part of out and as written by the call under it, and the call beside it. The number of a report
+// is told by the call beside it; a report that is refused has an empty front part.
 fn report(
     call: u64,
     head: Shedder,
@@ -86,16 +86,23 @@ fn report(
     uses: &[[f64; 2 * DIMS]],
     counted: &[[u64; 8]],
     out: &mut [u8],
-) -> u64 {
-    if call == 5 {
-        return numbers::report_number(report::write_report(head, tags, units, uses, counted, out));
-    }
+) -> Tried {
     let no = report::report_refusal(head, tags, units, uses, counted, out);
     if call == 6 {
-        return no;
+        return tries::after(no, head);
+    }
+    if call == 5 {
+        let w = numbers::read_written(report::write_report(head, tags, units, uses, counted, out));
+        let n = w.value as usize;
+        tries::page(script::front(out, n));
+        return tries::written(w.refusal, head, n);
     }
     let front = report::report(head, tags, units, uses, counted, out);
-    if front.len() == 0 { no } else { DONE }
+    tries::page(front);
+    if front.len() == 0 {
+        return tries::after(no, head);
+    }
+    tries::written(DONE, head, front.len())
 }
 
 // No word of the histogram is 0.
@@ -165,7 +172,7 @@ fn aside(
 ) -> Tried {
     match call {
         3 => cut(row, head, tags, units, uses, counted),
-        4..=6 => tries::after(report(call, head, tags, units, uses, counted, out), head),
+        4..=6 => report(call, head, tags, units, uses, counted, out),
         _ => tries::after(tries::reading(call, head), head),
     }
 }

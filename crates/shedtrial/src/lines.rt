@@ -1,5 +1,6 @@
 // Standard input cut into lines, and the answers written to standard output.
 use flow::DIMS;
+use libc::STDERR_FILENO;
 use libc::STDIN_FILENO;
 use libc::STDOUT_FILENO;
 use script::FEED;
@@ -16,20 +17,40 @@ const BLOCK: usize = 65536;
 // From here on the page is written before the next answer: what is left of it holds any answer.
 const FULL: usize = 61336;
 
-// The trial, how many bytes of the line that is being read are kept, and whether the input has ended.
+// The trial, how many bytes of the line that is being read are kept, whether nothing more is read, and whether input or
+// output failed, so that nothing more is written either.
 struct Served {
     trial: Trial,
     len: usize,
     is_over: bool,
+    is_broken: bool,
 }
 
-fn flushed(mut t: Trial, page: &[u8]) -> Trial {
-    if t.at < FULL {
-        return t;
+// Says on standard error why the program stops.
+fn broken(trial: Trial, why: &[u8]) -> Served {
+    io::write_all(STDERR_FILENO, why);
+    Served {
+        trial,
+        len: 0,
+        is_over: true,
+        is_broken: true,
     }
-    io::write_all(STDOUT_FILENO, front(page, t.at));
+}
+
+// Writes the answers that stand on the page, and empties it. Once input or output failed, answers are dropped.
+fn written(s: Served, page: &[u8]) -> Served {
+    let mut t = s.trial;
+    let n = t.at;
     t.at = 0;
-    t
+    if s.is_broken || io::write_all(STDOUT_FILENO, front(page, n)) {
+        return Served {
+            trial: t,
+            len: s.len,
+            is_over: s.is_over,
+            is_broken: s.is_broken,
+        };
+    }
+    broken(t, b"shedtrial: standard output cannot be written, answers are lost\n")
 }
 
 // Answers the line that is kept.
@@ -47,12 +68,16 @@ fn ended(
     let t = s.trial;
     let whole = front(line, s.len);
     let a = trial::answer(t, tags, units, uses, counts, sums, counted, whole, page);
-    let f = flushed(a, page);
-    Served {
-        trial: f,
+    let answered = Served {
+        trial: a,
         len: 0,
-        is_over: false,
+        is_over: s.is_over,
+        is_broken: s.is_broken,
+    };
+    if a.at < FULL {
+        return answered;
     }
+    written(answered, page)
 }
 
 // Answers each line that ends in a block of the input, and keeps what stands behind the last.
@@ -82,7 +107,7 @@ fn block(
     s
 }
 
-// Reads once, and answers the lines that came.
+// Reads once, and answers the lines that came: whoever waits for the answers has them before the next read.
 fn turn(
     mut s: Served,
     tags: &mut [u16; TAGS],
@@ -96,12 +121,16 @@ fn turn(
 ) -> Served {
     let mut input = [0u8; BLOCK];
     let got = libc::read(STDIN_FILENO, &mut input);
+    if got < 0 {
+        let t = s.trial;
+        return broken(t, b"shedtrial: standard input cannot be read\n");
+    }
     let n = io::count(got, &input);
     if n == 0 {
         s.is_over = true;
         return s;
     }
-    block(
+    let answered = block(
         s,
         tags,
         units,
@@ -112,10 +141,11 @@ fn turn(
         line,
         page,
         &input[..n],
-    )
+    );
+    written(answered, page)
 }
 
-// Answers a last line that has no line end, and writes what is left of the page.
+// Answers a last line that has no line end.
 fn finish(
     s: Served,
     tags: &mut [u16; TAGS],
@@ -128,13 +158,10 @@ fn finish(
     page: &mut [u8; BLOCK],
 ) {
     if s.len == 0 {
-        let t = s.trial;
-        io::write_all(STDOUT_FILENO, front(page, t.at));
         return;
     }
     let e = ended(s, tags, units, uses, counts, sums, counted, line, page);
-    let t = e.trial;
-    io::write_all(STDOUT_FILENO, front(page, t.at));
+    written(e, page);
 }
 
 // The whole input. Nothing says that an input ends, so the turns are counted down from a number that no run uses up.
@@ -156,6 +183,7 @@ pub fn serve() {
         trial: trial::unstarted(),
         len: 0,
         is_over: false,
+        is_broken: false,
     };
     let mut turns = u64::MAX;
     while turns > 0 {

@@ -33,6 +33,7 @@ pub use steps::unit;
 pub use steps::value;
 pub use steps::value_up_to;
 pub use tells::line;
+pub use tells::page;
 pub use tells::step;
 
 // Unit records, counted records, the tags of both, and the bytes of the report's buffer.
@@ -42,7 +43,7 @@ pub const COUNTED: usize = 3;
 
 pub const TAGS: usize = UNITS + COUNTED;
 
-pub const OUT: usize = 200;
+pub const OUT: usize = 4096;
 
 // What came of a call: the number that it was refused by, or one of those below; the head after it; how many bytes of the
 // buffer an answer took; and whether all else is as before.
@@ -62,10 +63,15 @@ pub const OVER_SHARE: u64 = 11;
 pub const RELAY_RATE: u64 = 12;
 
 pub fn after(number: u64, head: Shedder) -> Tried {
+    written(number, head, 0)
+}
+
+// A call that took so many bytes of the buffer.
+pub fn written(number: u64, head: Shedder, at: usize) -> Tried {
     Tried {
         number,
         head,
-        at: 0,
+        at,
         unchanged: true,
     }
 }

@@ -35,18 +35,19 @@ pub const SAYS: usize = 18;
 
 const WIDTH: usize = 20;
 
-const ROWS: usize = 104;
+const ROWS: usize = 110;
 
 // A row has: the call, a letter, as edges/calls reads it; the unit, g for a group, else the one with no address; the part
 // of the head that is unfit, as unfit reads it; how many tags, units, uses and counted sources are
 // lent; and as letters of VALUES how many bytes of the report's buffer, the amounts (a start's rates, else a cost) and
-// the stamp. The last says what is written: f, r, i, a, v of a case that is run, t of a call that is refused, l of a
-// line that is refused.
+// the stamp. The last says what is written: f, r, i, a, v of a case that is run, t of a call that is refused, b of a
+// report that is written, l of a line that is refused.
 //
 // First the cases that are run: the fresh verdict, the rates, idle, age, scans. Then two judgements, a cut and a
 // histogram with no word 0, for the calls refused: questions 1 and 2 by start, 3 to 6 by judge, 3 to 5 by cut, 3, 4 and 7
 // by each of the report's calls, 3 by each reading; where a row is unfit in more than one way, the first question gives
-// the number. Last the lines, question 8.
+// the number. Then the report, which has 135 bytes here, into a buffer of just so many, of one more and of 4,096. Last the
+// lines, question 8.
 fn code(row: usize, column: usize) -> u8 {
     let all = b"\
         a     7443 i dd o   \
@@ -147,6 +148,12 @@ fn code(row: usize, column: usize) -> u8 {
         i   a 7443 i bb o t \
         j   a 7443 i bb o t \
         k   a 7443 i bb o t \
+        d     7443 v bb o b \
+        d     7443 w bb o b \
+        d     7443 x bb o b \
+        e     7443 v bb o b \
+        e     7443 w bb o b \
+        e     7443 x bb o b \
         m     7443 g bb o l \
         n     7443 g bb o l \
         o     7443 g bb o l \
@@ -180,9 +187,9 @@ const VALUES: [u64; 32] = [
     1099511627777,
     9007199254740992,
     18446744073709551615,
-    0,
-    0,
-    0,
+    135,
+    136,
+    4096,
     0,
     0,
     0,
@@ -217,7 +224,7 @@ pub fn value_up_to(row: usize, column: usize, most: usize) -> usize
 }
 
 // The steps, and the row of each: a whole scan is a judgement made 32 times.
-pub const STEPS: usize = 194;
+pub const STEPS: usize = 200;
 
 pub fn row_of(step: usize) -> usize {
     match step {
@@ -227,7 +234,7 @@ pub fn row_of(step: usize) -> usize {
         48..=78 => 18,
         79..=80 => step - 60,
         81..=111 => 21,
-        112..=193 => step - 90,
+        112..=199 => step - 90,
         _ => 0,
     }
 }

@@ -71,6 +71,13 @@ fn refused(row: usize, t: Tried) {
     changed(t.unchanged, b", nothing changed\n");
 }
 
+// How many bytes a report took; its text stands before.
+fn written(row: usize, t: Tried) {
+    asked(row);
+    says::number(t.at as u64);
+    changed(t.unchanged, b" bytes written, nothing else changed\n");
+}
+
 // ---- the cases that are run
 
 fn outcome(what: &[u8], n: u64, number: u64) {
@@ -114,6 +121,7 @@ fn told(row: usize, t: Tried) {
     let h = t.head;
     match steps::letter(row, steps::SAYS) {
         1 => active(stamp, h.tracked),
+        2 => written(row, t),
         6 => fresh(t.number),
         9 => outcome(b"idle ", stamp, t.number),
         12 => changed(t.unchanged, b"nothing else changed\n"),
@@ -131,6 +139,11 @@ pub fn step(row: usize, head: Shedder, t: Tried) -> Shedder {
         return t.head;
     }
     head
+}
+
+// The text of a report, which ends with a line end.
+pub fn page(front: &[u8]) {
+    says::text(front);
 }
 
 // A line and its answer, which has its own line end.

@@ -5,10 +5,10 @@ use Rattle.edges.proofs.main.Statement.{statement}
 use Rattle.edges.proofs.main.Tie as tie
 
 abbrev Inv-loop : tie.InvT-loop
-Inv-loop tags₀ units₀ uses₀ counts₀ sums₀ counted₀ head₀ i₀ tags units uses counts sums counted head i = i ≤ 194
+Inv-loop tags₀ units₀ uses₀ counts₀ sums₀ counted₀ head₀ i₀ tags units uses counts sums counted head i = i ≤ 200
 
 abbrev μ-loop : tie.MeasureT-loop
-μ-loop tags₀ units₀ uses₀ counts₀ sums₀ counted₀ head₀ i₀ tags units uses counts sums counted head i = 194 - i
+μ-loop tags₀ units₀ uses₀ counts₀ sums₀ counted₀ head₀ i₀ tags units uses counts sums counted head i = 200 - i
 
 run-requires : tie.Need-run-requires Inv-loop μ-loop
 run-requires c κs = search needs
