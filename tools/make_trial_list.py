@@ -1,15 +1,18 @@
 #!/usr/bin/env python3
 """make_trial_list.py ORACLE GENS FOLDER: writes FOLDER/stdin and FOLDER/stdout of the program shedtrial.
 
-ORACLE is the Rust oracle's shedtrial, GENS the folder that holds gens.py. The list is document 01's example and then 24
-scripts of gens.py, two of each of its twelve styles. stdout is what the oracle prints for it; its front part must be
-what document 01 prints for the example.
+ORACLE is the Rust oracle's shedtrial, GENS the folder that holds gens.py. The list is document 01's example, the two lists
+of docs/FAIRNESS.md's example for the dairy (fairness/example.py), and then 24 scripts of gens.py, two of each of its twelve
+styles. stdout is what the oracle prints for it; its front part must be what document 01 prints for the example.
 """
+import os
 import subprocess
 import sys
 
 oracle, gens_folder, folder = sys.argv[1:4]
-sys.path.insert(0, gens_folder)
+sys.dont_write_bytecode = True
+sys.path[:0] = [gens_folder, os.path.join(os.path.dirname(os.path.abspath(__file__)), 'fairness')]
+import example
 import gens
 
 EXAMPLE = b"""R 10 1000 0 0
@@ -36,7 +39,7 @@ SEEDS = range(7200, 7224)
 LINES = 1500
 
 scripts = [gens.script(seed, LINES) for seed in SEEDS]
-text = EXAMPLE + b''.join(s if s.endswith(b'\n') else s + b'\n' for s in scripts)
+text = EXAMPLE + ''.join(example.LISTS).encode() + b''.join(s if s.endswith(b'\n') else s + b'\n' for s in scripts)
 answers = subprocess.run([oracle], input=text, capture_output=True, check=True).stdout
 assert answers.startswith(PRINTED)
 open(folder + '/stdin', 'wb').write(text)
