@@ -7,6 +7,10 @@
 #include <stddef.h>
 #include <stdint.h>
 
+#ifdef __cplusplus
+extern "C" {
+#endif
+
 #define TANKPOST_DIMS 2
 #define TANKPOST_CAUSES 3
 #define TANKPOST_BUCKETS 768
@@ -128,5 +132,9 @@ struct tankpost_count tankpost_cut_batches(struct tankpost_head head, uint64_t c
 struct tankpost_level tankpost_level(struct tankpost_head head, uint64_t dim);
 struct tankpost_count tankpost_rate(struct tankpost_head head, uint64_t dim);
 struct tankpost_count tankpost_is_bounded(struct tankpost_head head);
+
+#ifdef __cplusplus
+}
+#endif
 
 #endif

@@ -1,5 +1,7 @@
 //! Declarations for a Rust program that links `target/staticlib/libtankpost.a` (made by `rt staticlib tankpost`), and the
 //! calls over memory that the program holds. The structs are those of crates/flow, head, sender, numbers and tankpost, field by field.
+//! For editions 2021 and 2024; Rust 1.82 or later.
+#![allow(dead_code)]
 
 pub const DIMS: usize = 2;
 pub const CAUSES: usize = 3;
@@ -102,7 +104,7 @@ pub type CountedRow = [u64; 8];
 pub type Counts = [[u32; BUCKETS]; DIMS];
 pub type Sums = [[f64; BUCKETS]; DIMS];
 
-extern "C" {
+unsafe extern "C" {
     fn tankpost_start(
         head: Head,
         tags: *const u16, tags_len: usize,

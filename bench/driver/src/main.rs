@@ -1,5 +1,7 @@
 //! Times `judge` and the report of the original Rust and of this, in one process, on the same sequence, and prints a table.
+//! With the word `churn` it times senders that come and go instead.
 #![allow(dead_code, unused_parens)]
+mod churn;
 mod group;
 mod key;
 mod report;
@@ -167,6 +169,9 @@ fn reporting(turns: usize) -> [f64; 3] {
 }
 
 fn main() {
+    if std::env::args().nth(1).as_deref() == Some("churn") {
+        return churn::table();
+    }
     println!("| What | Rust, ns a call | here, ns a call | here / Rust | admitted, Rust and here |");
     println!("|---|---|---|---|---|");
     // so many calls in a turn that it has the scans that fall to it: one begins each half second, so each senders / 2 calls
