@@ -107,13 +107,22 @@ impl Both {
         Ok(())
     }
 
+    /// Into so much room, and into room for just the text, for one byte more, and for 4,096 bytes.
     fn report(&mut self, room: usize) -> Result<(), String> {
+        let text = self.rust.as_ref().map_or(String::new(), |r| text_of(&r.report()));
+        for room in [room, text.len(), text.len() + 1, 4_096] {
+            self.report_into(room, &text)?;
+        }
+        Ok(())
+    }
+
+    /// The answer, the text and every byte behind it.
+    fn report_into(&mut self, room: usize, text: &str) -> Result<(), String> {
         let before: Vec<u8> = (0..room).map(|i| (i * 7) as u8).collect();
         let mut expected = before.clone();
         let mut out = before;
         let refusal = self.here.report_refusal(&out);
         let written = self.here.report(&mut out);
-        let text = self.rust.as_ref().map_or(String::new(), |r| text_of(&r.report()));
         let asked = match questions::report(&self.here) {
             0 if text.len() > room => 7,
             number => number,
@@ -123,7 +132,7 @@ impl Both {
         }
         differs("report's refusal", [asked; 2], [refusal, written.refusal])?;
         differs("report's length", if asked == 0 { text.len() as u64 } else { 0 }, written.value)?;
-        differs("report", String::from_utf8_lossy(&expected), String::from_utf8_lossy(&out))
+        differs("report", expected, out)
     }
 
     /// A write goes into both; none is made before a start, nor a record into a relay that is not bounded or has no room.
