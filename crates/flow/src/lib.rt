@@ -1,6 +1,6 @@
 // The float core of a judgement, by value: the token bucket and a unit's use. The want and the decision are in `verdict`. No store is known here.
 ghost use mathlib.Core.Path.{_≡_};
-ghost use Prim.Native.Nat.{_≤_, _<_, _^_, _-_, min, max};
+ghost use Prim.Native.Nat.{_^_, _-_, min, max};
 ghost use Rattle.flow.specs.Flow as flow;
 
 // Receptions and bytes. Every loop, array and law goes over this number.
@@ -24,12 +24,11 @@ pub struct Use {
 
 // ---- numbers
 
-// A whole number up to 2^53 as a double: the cast is exact.
+// The double nearest to a whole number, the number itself up to 2^53. It is defined on every number, so that no bound is asked.
 pub fn whole(n: u64) -> f64
-    requires { ⌜ n ≤ 2 ^ 53 ⌝ }
     ensures { λ r. ⌜ r ≡ flow.whole n ⌝ }
 {
-    n as f64
+    std::num::nearest_u64_to_f64(n)
 }
 
 // A rate or a cost as a double. The unbounded rate is the constant 2^64, the double nearest to it.
@@ -39,7 +38,7 @@ pub fn per_second(rate: u64) -> f64
     if rate == 18446744073709551615 {
         18446744073709551616.0
     } else {
-        std::num::nearest_u64_to_f64(rate)
+        whole(rate)
     }
 }
 
@@ -112,7 +111,6 @@ impl Bucket {
 
     // After `elapsed` milliseconds.
     pub fn refilled(mut self, elapsed: u64) -> Bucket
-        requires { ⌜ elapsed ≤ 2 ^ 53 ⌝ }
         ensures { λ r. ⌜ r ≡ flow.refilled self elapsed ⌝ }
     {
         self.tokens = ieee::min(self.tokens + whole(elapsed) * self.rate_per_ms, self.burst);
@@ -140,7 +138,6 @@ impl Bucket {
 
 // A time in seconds.
 pub fn seconds(ms: u64) -> f64
-    requires { ⌜ ms ≤ 2 ^ 53 ⌝ }
     ensures { λ r. ⌜ r ≡ flow.seconds ms ⌝ }
 {
     whole(ms) / 1000.0
@@ -148,7 +145,6 @@ pub fn seconds(ms: u64) -> f64
 
 // A fresh unit's credit is full, another's is filled for the time since its last judgement, up to full.
 pub fn credit_of(fresh: bool, credit: f64, fill: f64, idle: u64) -> f64
-    requires { ⌜ idle ≤ 2 ^ 53 ⌝ }
     ensures { λ r. ⌜ r ≡ flow.credit-of fresh credit fill idle ⌝ }
 {
     let depth = fill * 4.0;
@@ -183,7 +179,6 @@ impl Use {
 
     // At a judgement: the credit, filled since the last.
     pub fn credited(mut self, now: u64, fill: [f64; DIMS]) -> Use
-        requires { ⌜ now ≤ 2 ^ 53 ⌝ }
         ensures { λ r. ⌜ r ≡ flow.credited self now fill ⌝ }
     {
         let idle = since(now, self.at_ms);
@@ -273,7 +268,6 @@ impl Use {
 // ---- the buckets, over the dimensions
 
 pub fn refilled_all(mut buckets: [Bucket; DIMS], elapsed: u64) -> [Bucket; DIMS]
-    requires { ⌜ elapsed ≤ 2 ^ 53 ⌝ }
     ensures { λ r. ⌜ r ≡ flow.refilled-all buckets elapsed ⌝ }
 {
     let was = buckets;

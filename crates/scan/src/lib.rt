@@ -3,7 +3,6 @@ ghost use mathlib.Core.Path.{_≡_};
 ghost use mathlib.Core.Bool.{true};
 ghost use Prim.Native.Nat.{_<_, _≤_, _+_};
 ghost use lib.ListN.{length};
-ghost use Rattle.flow.specs.Flow as float;
 ghost use Rattle.store.specs.Store as store;
 ghost use Rattle.wants.specs.Wants as wants;
 ghost use Rattle.head.specs.Numbers as numbers;
@@ -309,17 +308,10 @@ fn levels(open: [f64; DIMS], trim: [f64; DIMS]) -> [f64; DIMS]
     out
 }
 
-// The cast that is defined on every number, so that no bound is asked.
-fn number(n: u64) -> f64
-    ensures { λ r. ⌜ r ≡ float.whole n ⌝ }
-{
-    std::num::nearest_u64_to_f64(n)
-}
-
 fn span_of(now: u64, at: u64) -> f64
     ensures { λ r. ⌜ r ≡ trimming.span-of now at ⌝ }
 {
-    number(flow::since(now, at)) / 1000.0
+    flow::seconds(flow::since(now, at))
 }
 
 fn trimmed(h: Shedder, counts: &[[u32; 768]; DIMS], sums: &[[f64; 768]; DIMS]) -> Shedder

@@ -1,8 +1,7 @@
 -- A judgement of a bounded relay, from its parts. Assumes nothing.
 use mathlib.Core.Path.{_≡_, ap, _∙_}
 use mathlib.Core.List.{List}
-use Prim.Native.Nat.{ℕ, _≤_, _<_, _^_, max}
-use native.Mathlib.Omega.{arith}
+use Prim.Native.Nat.{ℕ, max}
 use lib.Ieee.{Float}
 use Rattle.flow.specs.Flow.{numbers}
 use Rattle.sender.specs.declared.Unit.{Unit}
@@ -35,6 +34,3 @@ bounded-is h m g k u cost stamp clock paid p i1 u1 s1 n t i2 k1 s m2 g1 a eC eN 
     ∙ ap (bounded-passed (memory m g k) u cost clock) eP
     ∙ ap (λ (c : List Float). bounded-passed (memory m g k) u cost clock (judged h m u c clock)) eN
     ∙ ap (λ (clock : ℕ). bounded-passed (memory m g k) u cost clock (judged h m u (numbers cost) clock)) eC
-
-pub clock-held : (a b c : ℕ) → c ≡ max a b → a < 9007199254740992 → b < 9007199254740992 → c ≤ 2 ^ 53
-clock-held a b c e p q = omega (arith, e, p, q)

@@ -1,6 +1,6 @@
 // A judgement: the head by value, the records lent.
 ghost use mathlib.Core.Path.{_≡_};
-ghost use Prim.Native.Nat.{_≤_, _^_};
+ghost use Prim.Native.Nat.{_≤_};
 ghost use lib.ListN.{length};
 ghost use Rattle.sender.specs.Sender as sender;
 ghost use Rattle.store.specs.Store as store;
@@ -57,7 +57,6 @@ fn outcome(
     cost: [f64; DIMS],
     now: u64,
 ) -> Outcome
-    requires { ⌜ now ≤ 2 ^ 53 ⌝ }
     ensures { λ r. ⌜ r ≡ judging.outcome f level used rank cost now ⌝ }
 {
     let buckets = f.buckets;
@@ -128,7 +127,6 @@ fn judged(
     requires { ⌜ length (now units) ≡ head .«unit_room» ⌝ }
     requires { ⌜ length (now uses) ≡ head .«unit_room» ⌝ }
     requires { ⌜ head .tracked ≤ head .«unit_room» ⌝ }
-    requires { ⌜ clock ≤ 2 ^ 53 ⌝ }
     requires { ⌜ name ≡ sender.name-of unit ⌝ }
     requires { ⌜ i ≡ store.find (now tags) (now units) name (head .tracked) ⌝ }
     requires { ⌜ hash ≡ sender.hash-of unit ⌝ }

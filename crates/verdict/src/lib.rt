@@ -1,7 +1,6 @@
 // What decides: a unit's want, the rules, the verdict, and a judgement on one record. Floats by value; no store is known here.
 ghost use mathlib.Core.Path.{_≡_};
 ghost use mathlib.Core.Bool.{_&&_};
-ghost use Prim.Native.Nat.{_≤_, _^_};
 ghost use Rattle.verdict.specs.Verdict as verdicts;
 use flow::Bucket;
 use flow::DIMS;
@@ -217,8 +216,6 @@ pub fn judged(
     level: [f64; DIMS],
     rank: f64,
 ) -> Outcome
-    requires { ⌜ now ≤ 2 ^ 53 ⌝ }
-    requires { ⌜ elapsed ≤ 2 ^ 53 ⌝ }
     ensures { λ r. ⌜ r ≡ verdicts.judged buckets used now elapsed cost fill level rank ⌝ }
 {
     let full = refilled_all(buckets, elapsed);

@@ -10,8 +10,8 @@ unbounded : ofBits binary64 0x43f0_0000_0000_0000 ≡ whole 18446744073709551615
 unfolding ofBits ofInt
 unbounded = refl
 
-nearest-u64-to-f64-requires : tie.Need-nearest-u64-to-f64-requires
-nearest-u64-to-f64-requires c κs = search needs
+whole-requires : tie.Need-whole-requires
+whole-requires c κs = search needs
 
 returns : tie.Need-returns
 returns c = unbounded ∙ ap whole (sym (c .if1 .taken))
@@ -20,4 +20,4 @@ returns-2 : tie.Need-returns-2
 returns-2 c = search needs
 
 pub per-second-spec : {M : Type 1} → statement M
-per-second-spec = tie.close (tie.spec nearest-u64-to-f64-requires returns returns-2)
+per-second-spec = tie.close (tie.spec whole-requires returns returns-2)

@@ -6,12 +6,12 @@ use Rattle.scan.proofs.span_of.Tie as tie
 since-requires : tie.Need-since-requires
 since-requires c κs = search needs
 
-number-requires : tie.Need-number-requires
-number-requires c κs = search needs
+seconds-requires : tie.Need-seconds-requires
+seconds-requires c κs = search needs
 
 returns : tie.Need-returns
 unfolding span-of
-returns c = simp (c .number .ensures, c .before .since .ensures)
+returns c = simp (c .seconds .ensures, c .before .since .ensures)
 
 pub span-of-spec : {M : Type 1} → statement M
-span-of-spec = tie.close (tie.spec since-requires number-requires returns)
+span-of-spec = tie.close (tie.spec since-requires seconds-requires returns)

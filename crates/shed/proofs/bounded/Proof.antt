@@ -1,4 +1,4 @@
-use Rattle.shed.proofs.Bounding.{bounded-is, clock-held}
+use Rattle.shed.proofs.Bounding.{bounded-is}
 use Rattle.head.proofs.Bounds.{le-by, lt-by, le-to, le-within, sum-within}
 use Rattle.head.specs.declared.Scan.{Scan}
 use mathlib.Core.Path.{ap, _∙_}
@@ -15,7 +15,7 @@ numbers-requires : tie.Need-numbers-requires
 numbers-requires c κs = search needs
 
 judged-requires : tie.Need-judged-requires
-judged-requires c κs = (le-within _ (le-refl _) (c .before .before .before .before .before .before .before .pre .1 .1 .1 .tags-room), (c .before .before .before .before .before .before .before .pre .1 .1 .1 .units-room, (c .before .before .before .before .before .before .before .pre .1 .1 .1 .uses-room, (c .before .before .before .before .before .before .before .pre .1 .1 .1 .tracked-held, (clock-held _ _ _ (c .before .before .before .before .later .ensures) (c .before .before .before .before .before .before .before .pre .1 .1 .1 .stamp-held) (c .before .before .before .before .before .before .before .pre .1 .1 .1 .clock-held), (c .before .before .before .before .before .before .before .pre .1 .0, (c .before .before .before .before .before .before .before .pre .1 .1 .0, c .before .before .before .before .before .before .before .pre .0)))))))
+judged-requires c κs = (le-within _ (le-refl _) (c .before .before .before .before .before .before .before .pre .1 .1 .1 .tags-room), (c .before .before .before .before .before .before .before .pre .1 .1 .1 .units-room, (c .before .before .before .before .before .before .before .pre .1 .1 .1 .uses-room, (c .before .before .before .before .before .before .before .pre .1 .1 .1 .tracked-held, (c .before .before .before .before .before .before .before .pre .1 .0, (c .before .before .before .before .before .before .before .pre .1 .1 .0, c .before .before .before .before .before .before .before .pre .0))))))
 
 told-requires : tie.Need-told-requires
 told-requires c κs = (sum-within (c .before .before .before .before .before .before .before .judged .ensures .1 .1 .1 .0) (c .before .before .before .before .before .before .before .judged .ensures .1 .1 .0) (c .before .before .before .before .before .before .before .before .before .before .before .before .before .before .before .pre .1 .1 .1 .counted-held) (c .before .before .before .before .before .before .before .before .before .before .before .before .before .before .before .pre .1 .1 .1 .tags-room) (c .before .before .before .before .before .before .before .judged .kept .1 .0), lt-by (c .before .before .before .before .before .before .before .judged .ensures .1 .1 .0) (c .before .before .before .before .before .before .before .before .before .before .before .before .before .before .before .pre .1 .1 .1 .counted-held))
