@@ -3,7 +3,6 @@
 #ifndef TANKPOST_H
 #define TANKPOST_H
 
-#include <stdbool.h>
 #include <stddef.h>
 #include <stdint.h>
 
@@ -26,7 +25,7 @@ struct tankpost_bucket {
 struct tankpost_use {
     double attempted[TANKPOST_DIMS], credit[TANKPOST_DIMS];
     uint64_t at_ms;
-    bool fresh;
+    uint64_t fresh; /* any but 0: nothing was judged yet */
 };
 
 struct tankpost_flow {

@@ -23,7 +23,8 @@ pub struct Use {
     pub attempted: [f64; DIMS],
     pub credit: [f64; DIMS],
     pub at_ms: u64,
-    pub fresh: bool,
+    /// any but 0: nothing was judged yet
+    pub fresh: u64,
 }
 
 #[repr(C)]

@@ -2,9 +2,7 @@
 use mathlib.Core.Path.{_≡_, refl, sym, ap, _∙_}
 use Prim.Native.Nat.{ℕ, _+_, _-_, _<_}
 use native.Mathlib.Omega.{arith}
-use mathlib.Core.Bool.{Bool, true, false, not}
 use mathlib.Core.List.{List, [], _∷_, _++_}
-use lib.Dec.{eqb}
 use lib.Ieee.{Float, nan}
 use lib.ListN.{length, getD, set, length-set, replicate, length-replicate}
 use lib.Seq.{getD-set-same, getD-set-other, ext-getD}
@@ -14,7 +12,7 @@ use Rattle.flow.specs.Flow.{at, nothing}
 use Rattle.flow.proofs.Parts.{upto-at, upto-length}
 use Rattle.sender.specs.declared.Words.{Words}
 use Rattle.sender.specs.declared.Name.{Name}
-use Rattle.store.specs.Store.{Rows, rows, dims, part, picked, joined, mark, unit-row, words-at, use-at, units-put, uses-put, added}
+use Rattle.store.specs.Store.{Rows, rows, dims, part, picked, joined, unit-row, words-at, use-at, units-put, uses-put, added}
 use Rattle.fair.proofs.View as view
 use Rattle.store.proofs.Places.{Same}
 use Rattle.fair.proofs.Sweep as pass
@@ -51,10 +49,6 @@ high a b e = ext-getD nan (part (joined a b) dims) b (part-length (joined a b) d
     (λ d h. let l : d < dims = omega (arith, part-length (joined a b) dims) in
     part-at (joined a b) dims d l ∙ joined-at a b (dims + d) (omega arith) ∙ picked-high a b d)
 
-fresh-back : (b : Bool) → not (eqb (mark b) 0) ≡ b
-fresh-back true = refl
-fresh-back false = refl
-
 -- ---- a use has a part for each dimension
 pub record Whole (u : Use) : Type 0 where
   pub attempted : length (u .attempted) ≡ dims
@@ -65,21 +59,21 @@ use-of u v p q r s =
     ap (λ (x : List Float). record { attempted = x; credit = u .credit; «at_ms» = u .«at_ms»; fresh = u .fresh }) p
     ∙ ap (λ (x : List Float). record { attempted = v .attempted; credit = x; «at_ms» = u .«at_ms»; fresh = u .fresh }) q
     ∙ ap (λ (x : ℕ). record { attempted = v .attempted; credit = v .credit; «at_ms» = x; fresh = u .fresh }) r
-    ∙ ap (λ (x : Bool). record { attempted = v .attempted; credit = v .credit; «at_ms» = v .«at_ms»; fresh = x }) s
+    ∙ ap (λ (x : ℕ). record { attempted = v .attempted; credit = v .credit; «at_ms» = v .«at_ms»; fresh = x }) s
 
 module _ (units : List (List ℕ)) (uses : List (List Float)) (i : ℕ) (u : Use) (w : Whole u) (hu : i < length units) (hs : i < length uses) where
   pub put-back-read : length (getD units i []) ≡ 7 → use-at (units-put units i u) (uses-put uses i u) i ≡ u
   unfolding use-at units-put uses-put
   put-back-read seven =
       let r = unit-row units i in
-      let e : getD (set units i (set (set r 5 (u .«at_ms»)) 6 (mark (u .fresh)))) i [] ≡ set (set r 5 (u .«at_ms»)) 6 (mark (u .fresh)) = getD-set-same units i _ [] hu in
+      let e : getD (set units i (set (set r 5 (u .«at_ms»)) 6 (u .fresh))) i [] ≡ set (set r 5 (u .«at_ms»)) 6 (u .fresh) = getD-set-same units i _ [] hu in
       let f : getD (set uses i (joined (u .attempted) (u .credit))) i [] ≡ joined (u .attempted) (u .credit) = getD-set-same uses i _ [] hs in
-      let s4 : getD (set (set r 5 (u .«at_ms»)) 6 (mark (u .fresh))) 5 0 ≡ u .«at_ms» =
-      getD-set-other (set r 5 (u .«at_ms»)) 6 5 (mark (u .fresh)) 0 (λ q. absurd (omega arith)) ∙ getD-set-same r 5 (u .«at_ms») 0 (omega arith) in
-      let s5 : getD (set (set r 5 (u .«at_ms»)) 6 (mark (u .fresh))) 6 0 ≡ mark (u .fresh) =
-      getD-set-same (set r 5 (u .«at_ms»)) 6 (mark (u .fresh)) 0 (simp length-set (omega arith)) in
+      let s4 : getD (set (set r 5 (u .«at_ms»)) 6 (u .fresh)) 5 0 ≡ u .«at_ms» =
+      getD-set-other (set r 5 (u .«at_ms»)) 6 5 (u .fresh) 0 (λ q. absurd (omega arith)) ∙ getD-set-same r 5 (u .«at_ms») 0 (omega arith) in
+      let s5 : getD (set (set r 5 (u .«at_ms»)) 6 (u .fresh)) 6 0 ≡ u .fresh =
+      getD-set-same (set r 5 (u .«at_ms»)) 6 (u .fresh) 0 (simp length-set (omega arith)) in
       use-of _ u (ap (λ (x : List Float). part x 0) f ∙ low (u .attempted) (u .credit) (w .attempted)) (ap (λ (x : List Float). part x dims) f ∙ high (u .attempted) (u .credit) (w .credit))
-      (ap (λ (x : List ℕ). getD x 5 0) e ∙ s4) (ap (λ (x : List ℕ). not (eqb (getD x 6 0) 0)) e ∙ ap (λ (n : ℕ). not (eqb n 0)) s5 ∙ fresh-back (u .fresh))
+      (ap (λ (x : List ℕ). getD x 5 0) e ∙ s4) (ap (λ (x : List ℕ). getD x 6 0) e ∙ s5)
 
 module _ (room : ℕ) where
   abbrev R′ : Type 0
@@ -112,11 +106,11 @@ module _ (room : ℕ) where
     pub added-there : record-at (added m n w u) n ≡ row w u
     unfolding view.record-at added words-at use-at
     added-there =
-        let r = w .words .kind ∷ w .words .a ∷ w .words .b ∷ w .words .c ∷ w .words .d ∷ u .«at_ms» ∷ mark (u .fresh) ∷ [] in
+        let r = w .words .kind ∷ w .words .a ∷ w .words .b ∷ w .words .c ∷ w .words .d ∷ u .«at_ms» ∷ u .fresh ∷ [] in
         let d : getD (set (m .tags) n (w .tag)) n 0 ≡ w .tag = getD-set-same (m .tags) n (w .tag) 0 hi in
         let e : getD (set (m .units) n r) n [] ≡ r = getD-set-same (m .units) n r [] hu in
         let f : getD (set (m .uses) n (joined (u .attempted) (u .credit))) n [] ≡ joined (u .attempted) (u .credit) = getD-set-same (m .uses) n _ [] hs in
-        simp (d, e, f, low (u .attempted) (u .credit) (whole .attempted), high (u .attempted) (u .credit) (whole .credit), fresh-back (u .fresh))
+        simp (d, e, f, low (u .attempted) (u .credit) (whole .attempted), high (u .attempted) (u .credit) (whole .credit))
 
     pub added-listed : listed (added m n w u) (n + 1) ≡ listed m n ++ (row w u ∷ [])
     added-listed =
@@ -140,9 +134,9 @@ module _ (room : ℕ) where
     unfolding words-at units-put
     words-kept =
         let r = unit-row (m .units) i in
-        let e : getD (set (m .units) i (set (set r 5 (u .«at_ms»)) 6 (mark (u .fresh)))) i [] ≡ set (set r 5 (u .«at_ms»)) 6 (mark (u .fresh)) = getD-set-same (m .units) i _ [] hu in
-        let o : (k : ℕ) → k < 5 → getD (set (set r 5 (u .«at_ms»)) 6 (mark (u .fresh))) k 0 ≡ getD r k 0 =
-        λ k h. getD-set-other (set r 5 (u .«at_ms»)) 6 k (mark (u .fresh)) 0 (λ q. absurd (omega arith)) ∙ getD-set-other r 5 k (u .«at_ms») 0 (λ q. absurd (omega arith)) in
+        let e : getD (set (m .units) i (set (set r 5 (u .«at_ms»)) 6 (u .fresh))) i [] ≡ set (set r 5 (u .«at_ms»)) 6 (u .fresh) = getD-set-same (m .units) i _ [] hu in
+        let o : (k : ℕ) → k < 5 → getD (set (set r 5 (u .«at_ms»)) 6 (u .fresh)) k 0 ≡ getD r k 0 =
+        λ k h. getD-set-other (set r 5 (u .«at_ms»)) 6 k (u .fresh) 0 (λ q. absurd (omega arith)) ∙ getD-set-other r 5 k (u .«at_ms») 0 (λ q. absurd (omega arith)) in
         simp (e, o 0 (omega arith), o 1 (omega arith), o 2 (omega arith), o 3 (omega arith), o 4 (omega arith))
 
     pub put-there : record-at (rows (m .tags) (units-put (m .units) i u) (uses-put (m .uses) i u)) i ≡ row (view.name-at (m .tags) (m .units) i) u

@@ -30,7 +30,7 @@ module _ (s : State) (bs : List Bucket) (clk t : ℕ) (cost : ℕ → ℕ) (fill
 
   -- the batch as the model has it, with its want and its reserve test
   abbrev wants : Float
-  wants = verdicts.want (verdicts.weight-of (used .fresh) (now - used .«at_ms»)) (flow.tried (flow.fade-to (flow.credited used now fill) now) (priced cost) .attempted) (priced cost) level
+  wants = verdicts.want (verdicts.weight-of (flow.is-fresh (used .fresh)) (now - used .«at_ms»)) (flow.tried (flow.fade-to (flow.credited used now fill) now) (priced cost) .attempted) (priced cost) level
 
   abbrev full : List Bucket
   full = flow.refilled-all bs (now - clk)

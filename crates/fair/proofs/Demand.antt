@@ -185,7 +185,7 @@ module _ (rate ceiling : ℕ → ℕ) (overflow : Bool) (d : ℕ) (small : d < d
 
   -- one dimension of a use
   abbrev held : Use → credit.Held
-  held u = record { credit = at (u .credit) d; at = u .«at_ms»; fresh = u .fresh }
+  held u = record { credit = at (u .credit) d; at = u .«at_ms»; fresh = flow.is-fresh (u .fresh) }
 
   abbrev view : Kept → credit.Place
   view absent = credit.gone
@@ -225,7 +225,7 @@ module _ (rate ceiling : ℕ → ℕ) (overflow : Bool) (d : ℕ) (small : d < d
       let now = max (b .stamp) (clock stamp h) in
       let u = demand.found (s .used) now in
       settled-shaped (is-admitted (verdict-here s (clock stamp h) b fill)) (flow.tried (flow.fade-to (credited s (clock stamp h) b fill) now) (priced (b .cost))) (b .cost)
-      (upto-length (λ (i : ℕ). flow.credit-of (u .fresh) (at (u .credit) i) (at fill i) (now - u .«at_ms»)) dims (u .credit) ∙ found-shaped (s .used) now (shaped h))
+      (upto-length (λ (i : ℕ). flow.credit-of (flow.is-fresh (u .fresh)) (at (u .credit) i) (at fill i) (now - u .«at_ms»)) dims (u .credit) ∙ found-shaped (s .used) now (shaped h))
   shaped (There b c drops ∷ h) = dropped-shaped drops (state rate ceiling overflow h .used) (max (b .stamp) (clock stamp h)) (shaped h)
   shaped (Cut c ∷ h) =
       let u = demand.found (state rate ceiling overflow h .used) (clock stamp h) in
@@ -242,7 +242,7 @@ module _ (rate ceiling : ℕ → ℕ) (overflow : Bool) (d : ℕ) (small : d < d
   priced-at c = each-at (λ (i : ℕ). whole (c i)) (replicate dims nothing) d small (length-replicate dims nothing)
 
   met-same : (u : Use) (now : ℕ) (fill : List Float) → length (u .credit) ≡ dims → at (flow.credited u now fill .credit) d ≡ credit.met (held u) now (at fill d)
-  met-same u now fill s = each-at (λ (i : ℕ). flow.credit-of (u .fresh) (at (u .credit) i) (at fill i) (now - u .«at_ms»)) (u .credit) d small s
+  met-same u now fill s = each-at (λ (i : ℕ). flow.credit-of (flow.is-fresh (u .fresh)) (at (u .credit) i) (at fill i) (now - u .«at_ms»)) (u .credit) d small s
 
   paid-same : (ok : Bool) (u : Use) (c : ℕ → ℕ) → length (u .credit) ≡ dims → at (settled ok u c .credit) d ≡ credit.paid ok (at (u .credit) d) (c d)
   paid-same true u c s =
@@ -255,7 +255,7 @@ module _ (rate ceiling : ℕ → ℕ) (overflow : Bool) (d : ℕ) (small : d < d
       let m = credit.met (held u) now (at fill d) in
       let w = flow.tried (flow.fade-to (flow.credited u now fill) now) (priced c) in
       ap (λ (a : Bool). credit.paid a m (c d)) (and-same ok (Ieee.le (whole (c d)) m) f)
-      ∙ sym (paid-same ok w c (upto-length (λ (i : ℕ). flow.credit-of (u .fresh) (at (u .credit) i) (at fill i) (now - u .«at_ms»)) dims (u .credit) ∙ s) ∙ ap (λ (x : Float). credit.paid ok x (c d)) (met-same u now fill s))
+      ∙ sym (paid-same ok w c (upto-length (λ (i : ℕ). flow.credit-of (flow.is-fresh (u .fresh)) (at (u .credit) i) (at fill i) (now - u .«at_ms»)) dims (u .credit) ∙ s) ∙ ap (λ (x : Float). credit.paid ok x (c d)) (met-same u now fill s))
 
   judged-same : (u : Use) (now : ℕ) (fill : List Float) (c : ℕ → ℕ) (ok : Bool) → length (u .credit) ≡ dims → (ok ≡ true → Ieee.le (whole (c d)) (credit.met (held u) now (at fill d)) ≡ true)
       → credit.judged (held u) now (at fill d) (c d) ok ≡ held (settled ok (flow.tried (flow.fade-to (flow.credited u now fill) now) (priced c)) c)
@@ -263,7 +263,7 @@ module _ (rate ceiling : ℕ → ℕ) (overflow : Bool) (d : ℕ) (small : d < d
   judged-same u now fill c false s f = ap (λ (x : Float). record { credit = x; at = max (u .«at_ms») now; fresh = false }) (credit-same u now fill c false s f)
 
   returned-same : (u : Use) (c : ℕ → ℕ) → length (u .credit) ≡ dims → credit.returned (held u) (c d) ≡ held (flow.handed-back u (priced c))
-  returned-same u c s = ap (λ (x : Float). record { credit = x; at = u .«at_ms»; fresh = u .fresh })
+  returned-same u c s = ap (λ (x : Float). record { credit = x; at = u .«at_ms»; fresh = flow.is-fresh (u .fresh) })
       (sym (each-at (λ (i : ℕ). Ieee.add Ieee.binary64 (at (u .credit) i) (at (priced c) i)) (u .credit) d small s ∙ ap (λ (x : Float). Ieee.add Ieee.binary64 (at (u .credit) d) x) (priced-at c)))
 
   dropped-same : (drops : Bool) (k : Kept) (now : ℕ) → credit.dropped drops (view k) now ≡ view (demand.dropped drops k now)

@@ -18,7 +18,7 @@ use Rattle.sender.specs.declared.Name as sender-name
 use Rattle.sender.specs.declared.Unit as unit
 use Rattle.sender.specs.Sender as sender
 use Rattle.store.specs.Store as store
-use Rattle.store.specs.Store.{Rows, rows, unit-row, mark, use-at, units-put, uses-put}
+use Rattle.store.specs.Store.{Rows, rows, unit-row, use-at, units-put, uses-put}
 use Rattle.fair.specs.Given as shed
 use Rattle.fair.specs.Store as model
 use Rattle.fair.specs.Demand.{Kept, absent, present, there, found}
@@ -50,7 +50,7 @@ put-long m i x = record { tags = refl; units = length-set (m .units) i _; uses =
 put-wide : (m : Rows) (n i : ℕ) (x : Use) → i < length (m .units) → Wide 7 m n → i < n → Wide 7 (rows (m .tags) (units-put (m .units) i x) (uses-put (m .uses) i x)) n
 unfolding Wide units-put
 put-wide m n i x hu wide l j h = elim (ℕ-discrete j i) [
-  | yes q ↦ ap (λ (k : ℕ). length (getD (set (m .units) i (set (set (unit-row (m .units) i) 5 (x .«at_ms»)) 6 (mark (x .fresh)))) k [])) q
+  | yes q ↦ ap (λ (k : ℕ). length (getD (set (m .units) i (set (set (unit-row (m .units) i) 5 (x .«at_ms»)) 6 (x .fresh))) k [])) q
       ∙ ap (λ (r : List ℕ). length r) (getD-set-same (m .units) i _ [] hu) ∙ length-set (set (unit-row (m .units) i) 5 (x .«at_ms»)) 6 _ ∙ length-set (unit-row (m .units) i) 5 _ ∙ wide i l
   | no q ↦ ap (λ (r : List ℕ). length r) (getD-set-other (m .units) i j _ [] q) ∙ wide j h
 ]
@@ -62,7 +62,7 @@ added-long m i w x = record { tags = length-set (m .tags) i _; units = length-se
 added-wide : (m : Rows) (n : ℕ) (w : sender-name.Name) (x : Use) → n < length (m .units) → Wide 7 m n → Wide 7 (store.added m n w x) (n + 1)
 unfolding Wide store.added
 added-wide m n w x hu wide j h = elim (ℕ-discrete j n) [
-  | yes q ↦ ap (λ (k : ℕ). length (getD (set (m .units) n (w .words .kind ∷ w .words .a ∷ w .words .b ∷ w .words .c ∷ w .words .d ∷ x .«at_ms» ∷ mark (x .fresh) ∷ [])) k [])) q ∙ ap (λ (r : List ℕ). length r) (getD-set-same (m .units) n _ [] hu)
+  | yes q ↦ ap (λ (k : ℕ). length (getD (set (m .units) n (w .words .kind ∷ w .words .a ∷ w .words .b ∷ w .words .c ∷ w .words .d ∷ x .«at_ms» ∷ x .fresh ∷ [])) k [])) q ∙ ap (λ (r : List ℕ). length r) (getD-set-same (m .units) n _ [] hu)
   | no q ↦ ap (λ (r : List ℕ). length r) (getD-set-other (m .units) n j _ [] q) ∙ wide j (omega arith)
 ]
 

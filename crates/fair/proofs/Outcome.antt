@@ -73,7 +73,7 @@ module _ (bs : List Bucket) (clk t : ℕ) (cost : List ℕ) (fill level : List F
       let f = flow.fade-to (flow.credited x (max t clk) fill) (max t clk) in
       let a = upto-length (λ (d : ℕ). Ieee.add binary64 (at (f .attempted) d) (at (priced (costs cost)) d)) dims (f .attempted)
       ∙ upto-length (λ (d : ℕ). Ieee.mul binary64 (at (x .attempted) d) (fade (max t clk - x .«at_ms»))) dims (x .attempted) ∙ w .attempted in
-      let c = upto-length (λ (d : ℕ). flow.credit-of (x .fresh) (at (x .credit) d) (at fill d) (max t clk - x .«at_ms»)) dims (x .credit) ∙ w .credit in
+      let c = upto-length (λ (d : ℕ). flow.credit-of (flow.is-fresh (x .fresh)) (at (x .credit) d) (at fill d) (max t clk - x .«at_ms»)) dims (x .credit) ∙ w .credit in
       let n = verdicts.met x (max t clk) fill (priced (costs cost)) in
       weighed-whole (calls.want-of x (max t clk) (priced (costs cost)) fill level) rank (flow.refilled-all bs (max t clk - clk)) n (priced (costs cost)) (record { attempted = a; credit = c })
 

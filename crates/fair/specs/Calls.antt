@@ -11,7 +11,7 @@ use lib.Ieee as Ieee
 use lib.Ieee.{Float}
 use Rattle.ieee.specs.Units.{power, units}
 use Rattle.verdict.specs.Verdict as verdicts
-use Rattle.flow.specs.Flow.{dims, one, at}
+use Rattle.flow.specs.Flow.{dims, one, at, is-fresh}
 use Rattle.flow.specs.declared.Use.{Use}
 use Rattle.sender.specs.declared.Unit as unit
 use Rattle.sender.specs.declared.Name.{Name}
@@ -177,7 +177,7 @@ fills s = shed.fills (s .head .level) (shed.numbers (s .head .flow .rate))
 
 abbrev pub want-of : Use → ℕ → List Float → List Float → List Float → Float
 want-of u clock cost fill level =
-    verdicts.want (verdicts.weight-of (u .fresh) (clock - u .«at_ms»)) (verdicts.met u clock fill cost .attempted) cost level
+    verdicts.want (verdicts.weight-of (is-fresh (u .fresh)) (clock - u .«at_ms»)) (verdicts.met u clock fill cost .attempted) cost level
 
 abbrev pub want : State → unit.Unit → List ℕ → ℕ → Float
 want s u cost t = want-of (used s u (now s t)) (now s t) (shed.numbers cost) (fills s) (s .head .level)

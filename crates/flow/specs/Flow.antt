@@ -1,8 +1,9 @@
 -- The shedder's float core: the token bucket and one unit's use. Each function of src/ has its definition here for its contract.
 -- A value with a part for each dimension is a list; its parts are given by a function of the dimension, so that the number of dimensions stands only in `dims`. Definitions only.
 use Prim.Native.Nat.{ℕ, zero, suc, _-_, _^_, min, max}
-use mathlib.Core.Bool.{Bool, true, false, _&&_, cond}
+use mathlib.Core.Bool.{Bool, true, false, _&&_, cond, not}
 use mathlib.Core.List.{List}
+use lib.Dec.{eqb}
 use lib.IntN.{pos}
 use lib.ListN.{getD, set, replicate}
 use lib.Ieee as Ieee
@@ -62,6 +63,10 @@ returned b cost = record { tokens = least (Ieee.add binary64 (b .tokens) cost) (
 abbrev pub seconds : ℕ → Float
 seconds ms = Ieee.div binary64 (whole ms) thousand
 
+-- a mark of any word but 0 says that nothing was judged yet
+abbrev pub is-fresh : ℕ → Bool
+is-fresh mark = not (eqb mark 0)
+
 -- full for a fresh unit, else what it held, filled for `idle` milliseconds, and no more than full
 abbrev pub credit-of : Bool → Float → Float → ℕ → Float
 credit-of fresh credit fill idle =
@@ -105,7 +110,7 @@ all p (suc n) = all p n && p n
 
 -- ---- a unit's use
 abbrev pub added : ℕ → Use
-added now = record { attempted = replicate dims nothing; credit = replicate dims nothing; «at_ms» = now; fresh = true }
+added now = record { attempted = replicate dims nothing; credit = replicate dims nothing; «at_ms» = now; fresh = 1 }
 
 -- with other credit
 abbrev pub holding : Use → List Float → Use
@@ -116,7 +121,7 @@ abbrev pub trying : Use → List Float → Use
 trying u attempted = record { attempted = attempted; credit = u .credit; «at_ms» = u .«at_ms»; fresh = u .fresh }
 
 abbrev pub credited : Use → ℕ → List Float → Use
-credited u now fill = holding u (each (λ (d : ℕ). credit-of (u .fresh) (at (u .credit) d) (at fill d) (now - u .«at_ms»)) (u .credit))
+credited u now fill = holding u (each (λ (d : ℕ). credit-of (is-fresh (u .fresh)) (at (u .credit) d) (at fill d) (now - u .«at_ms»)) (u .credit))
 
 -- the sums, faded for the time since the last judgement
 abbrev pub fade-to : Use → ℕ → Use
@@ -133,7 +138,7 @@ tried u cost = record {
   attempted = each (λ (d : ℕ). Ieee.add binary64 (at (u .attempted) d) (at cost d)) (u .attempted);
   credit = u .credit;
   «at_ms» = u .«at_ms»;
-  fresh = false;
+  fresh = 0;
 }
 
 -- what a unit attempts a second: its sums faded to `t`, over the window of 2 seconds

@@ -13,13 +13,14 @@ pub struct Bucket {
     pub rate_per_ms: f64,
 }
 
-// What a unit attempted (a sum that fades) and what it may still be admitted, as of `at_ms`. `fresh`: nothing of it was judged yet.
+// What a unit attempted (a sum that fades) and what it may still be admitted, as of `at_ms`. `fresh`: nothing of it was judged
+// yet; any word but 0, so that every word is one that memory or C may hold.
 #[repr(C)]
 pub struct Use {
     pub attempted: [f64; DIMS],
     pub credit: [f64; DIMS],
     pub at_ms: u64,
-    pub fresh: bool,
+    pub fresh: u64,
 }
 
 // ---- numbers
@@ -136,6 +137,13 @@ impl Bucket {
 
 // ---- one dimension
 
+// Whether a mark says that nothing was judged yet.
+pub fn is_fresh(mark: u64) -> bool
+    ensures { λ r. ⌜ r ≡ flow.is-fresh mark ⌝ }
+{
+    mark != 0
+}
+
 // A time in seconds.
 pub fn seconds(ms: u64) -> f64
     ensures { λ r. ⌜ r ≡ flow.seconds ms ⌝ }
@@ -173,7 +181,7 @@ impl Use {
             attempted: [0.0; DIMS],
             credit: [0.0; DIMS],
             at_ms,
-            fresh: true,
+            fresh: 1,
         }
     }
 
@@ -182,7 +190,7 @@ impl Use {
         ensures { λ r. ⌜ r ≡ flow.credited self now fill ⌝ }
     {
         let idle = since(now, self.at_ms);
-        let fresh = self.fresh;
+        let fresh = is_fresh(self.fresh);
         let held = self.credit;
         let mut d = 0;
         while d < DIMS {
@@ -217,7 +225,7 @@ impl Use {
             self.attempted[d] = sums[d] + cost[d];
             d += 1;
         }
-        self.fresh = false;
+        self.fresh = 0;
         self
     }
 

@@ -24,7 +24,7 @@ walk-use u t g = adds (flow.rates u t) dims g
 
 -- overflow's at table 0, once it has been judged
 unfoldable pub walk-overflow : Use → ℕ → ℕ → Hist → Hist
-walk-overflow o table t g = choose (eqb table 0) (choose (o .fresh) g (walk-use o t g)) g
+walk-overflow o table t g = choose (eqb table 0) (choose (flow.is-fresh (o .fresh)) g (walk-use o t g)) g
 
 -- the record at i, where it stands in the table
 unfoldable pub walk-one : Rows → ℕ → ℕ → ℕ → Hist → Hist

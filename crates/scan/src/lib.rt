@@ -40,7 +40,7 @@ fn walk_overflow(
     ensures { λ r. ⌜ (wants.hist (now (counts .exit)) (now (sums .exit))) ≡ walking.walk-overflow overflow table «at_ms» (wants.hist (now (counts .entry)) (now (sums .entry))) ⌝ }
 {
     if table == 0 {
-        if overflow.fresh {
+        if flow::is_fresh(overflow.fresh) {
             return;
         }
         walk_use(counts, sums, overflow, at_ms);

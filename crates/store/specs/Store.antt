@@ -1,7 +1,7 @@
 -- Rows of lent memory: where a record's parts lie, finding, adding, and dropping the stale of one table. Definitions only.
 use Prim.Native.Nat.{ℕ, zero, suc, _+_, _-_, _%_, _^_, _<_, _≤_}
 use mathlib.Core.Path.{_≡_}
-use mathlib.Core.Bool.{Bool, true, false, cond, not}
+use mathlib.Core.Bool.{Bool, true, false, cond}
 use mathlib.Core.List.{List, [], _∷_}
 use lib.Dec.{eqb, ltb}
 use lib.ListN.{getD, set, replicate}
@@ -35,10 +35,6 @@ picked a b i = cond (ltb i dims) (at a i) (at b (i - dims))
 unfoldable pub joined : List Float → List Float → List Float
 joined a b = upto (picked a b) (dims + dims) (replicate (dims + dims) nothing)
 
-abbrev pub mark : Bool → ℕ
-mark true = 1
-mark false = 0
-
 -- ---- a record
 abbrev pub unit-row : List (List ℕ) → ℕ → List ℕ
 unit-row units i = getD units i []
@@ -61,11 +57,11 @@ use-at units uses i = record {
   attempted = part (getD uses i []) 0;
   credit = part (getD uses i []) dims;
   «at_ms» = getD (unit-row units i) 5 0;
-  fresh = not (eqb (getD (unit-row units i) 6 0) 0);
+  fresh = getD (unit-row units i) 6 0;
 }
 
 unfoldable pub units-put : List (List ℕ) → ℕ → Use → List (List ℕ)
-units-put units i u = set units i (set (set (unit-row units i) 5 (u .«at_ms»)) 6 (mark (u .fresh)))
+units-put units i u = set units i (set (set (unit-row units i) 5 (u .«at_ms»)) 6 (u .fresh))
 
 unfoldable pub uses-put : List (List Float) → ℕ → Use → List (List Float)
 uses-put uses i u = set uses i (joined (u .attempted) (u .credit))
@@ -73,7 +69,7 @@ uses-put uses i u = set uses i (joined (u .attempted) (u .credit))
 unfoldable pub added : Rows → ℕ → Name → Use → Rows
 added m i name u = record {
   tags = set (m .tags) i (name .tag);
-  units = set (m .units) i (name .words .kind ∷ name .words .a ∷ name .words .b ∷ name .words .c ∷ name .words .d ∷ u .«at_ms» ∷ mark (u .fresh) ∷ []);
+  units = set (m .units) i (name .words .kind ∷ name .words .a ∷ name .words .b ∷ name .words .c ∷ name .words .d ∷ u .«at_ms» ∷ u .fresh ∷ []);
   uses = set (m .uses) i (joined (u .attempted) (u .credit));
 }
 

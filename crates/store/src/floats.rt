@@ -1,4 +1,4 @@
-// A use as floats of memory: attempted per dimension, then credit per dimension; the fresh mark as a word.
+// A use as floats of memory: attempted per dimension, then credit per dimension.
 ghost use mathlib.Core.Path.{_≡_};
 ghost use Prim.Native.Nat.{_<_, _≤_, _+_};
 ghost use Rattle.store.specs.Store as store;
@@ -36,10 +36,4 @@ pub fn joined(a: [f64; DIMS], b: [f64; DIMS]) -> [f64; 2 * DIMS]
         i += 1;
     }
     out
-}
-
-pub fn mark(fresh: bool) -> u64
-    ensures { λ r. ⌜ r ≡ store.mark fresh ⌝ }
-{
-    if fresh { 1 } else { 0 }
 }

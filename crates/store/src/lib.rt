@@ -7,7 +7,6 @@ ghost use Rattle.store.specs.Store as store;
 mod floats;
 
 use floats::joined;
-use floats::mark;
 use floats::part;
 use flow::DIMS;
 use flow::Use;
@@ -31,7 +30,7 @@ pub fn words_at(units: &[[u64; 7]], i: usize) -> Words
     }
 }
 
-// Its use; a fresh mark is any word but 0.
+// Its use.
 pub fn use_at(units: &[[u64; 7]], uses: &[[f64; 2 * DIMS]], i: usize) -> Use
     requires { ⌜ i < length (now units) ⌝ }
     requires { ⌜ i < length (now uses) ⌝ }
@@ -43,7 +42,7 @@ pub fn use_at(units: &[[u64; 7]], uses: &[[f64; 2 * DIMS]], i: usize) -> Use
         attempted: part(held, 0),
         credit: part(held, DIMS),
         at_ms: row[5],
-        fresh: row[6] != 0,
+        fresh: row[6],
     }
 }
 
@@ -71,7 +70,7 @@ pub fn put_use(units: &mut [[u64; 7]], uses: &mut [[f64; 2 * DIMS]], i: usize, u
 {
     let mut row = units[i];
     row[5] = used.at_ms;
-    row[6] = mark(used.fresh);
+    row[6] = used.fresh;
     units[i] = row;
     let attempted = used.attempted;
     let credit = used.credit;
@@ -94,7 +93,7 @@ pub fn add(
 {
     let w = name.words;
     tags[i] = name.tag;
-    units[i] = [w.kind, w.a, w.b, w.c, w.d, used.at_ms, mark(used.fresh)];
+    units[i] = [w.kind, w.a, w.b, w.c, w.d, used.at_ms, used.fresh];
     let attempted = used.attempted;
     let credit = used.credit;
     uses[i] = joined(attempted, credit);

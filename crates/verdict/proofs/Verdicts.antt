@@ -6,7 +6,7 @@ use mathlib.Core.List.{List}
 use lib.Ieee.{Float}
 use Rattle.flow.specs.declared.Bucket.{Bucket}
 use Rattle.flow.specs.declared.Use.{Use}
-use Rattle.flow.specs.Flow.{spent-all, charged, tried, fade-to, credited, refilled-all}
+use Rattle.flow.specs.Flow.{is-fresh, spent-all, charged, tried, fade-to, credited, refilled-all}
 use Rattle.verdict.specs.declared.Outcome.{Outcome}
 use Rattle.verdict.specs.declared.Verdict.{Verdict}
 use Rattle.verdict.specs.Verdict.{is-admitted, settled, either, decided, covers, suffice, leaves, mark-of, weighed, judged, want, weight-of, met}
@@ -27,11 +27,11 @@ weighed-is wants rank m bs u cost a t l v o e e1 e2 e3 e4 e5 =
     (e1 ∙ ap (λ (l : Bool). decided wants a t l) (e2 ∙ ap (leaves bs cost) e3) ∙ ap (λ (t : Bool). decided wants a t (leaves bs cost (mark-of wants rank))) e4
     ∙ ap (λ (a : Bool). decided wants a (suffice bs cost) (leaves bs cost (mark-of wants rank))) e5)
 
-pub judged-is : (bs fs : List Bucket) (u w f t : Use) (now elapsed idle : ℕ) (cost fill level : List Float) (rank g x : Float) (o : Outcome)
-    → o ≡ weighed x rank fs t cost → fs ≡ refilled-all bs elapsed → x ≡ want g (t .attempted) cost level → t ≡ tried f cost → f ≡ fade-to w now → w ≡ credited u now fill → g ≡ weight-of (u .fresh) idle → idle ≡ now - u .«at_ms»
+pub judged-is : (bs fs : List Bucket) (u w f t : Use) (now elapsed idle : ℕ) (cost fill level : List Float) (rank : Float) (fresh : Bool) (g x : Float) (o : Outcome)
+    → o ≡ weighed x rank fs t cost → fs ≡ refilled-all bs elapsed → x ≡ want g (t .attempted) cost level → t ≡ tried f cost → f ≡ fade-to w now → w ≡ credited u now fill → g ≡ weight-of fresh idle → fresh ≡ is-fresh (u .fresh) → idle ≡ now - u .«at_ms»
     → o ≡ judged bs u now elapsed cost fill level rank
-judged-is bs fs u w f t now elapsed idle cost fill level rank g x o e e1 e2 e3 e4 e5 e6 e7 =
+judged-is bs fs u w f t now elapsed idle cost fill level rank fresh g x o e e1 e2 e3 e4 e5 e6 ef e7 =
     let et : t ≡ met u now fill cost = e3 ∙ ap (λ (f : Use). tried f cost) (e4 ∙ ap (λ (w : Use). fade-to w now) e5) in
-    e ∙ ap (λ (x : Float). weighed x rank fs t cost) (e2 ∙ ap (λ (g : Float). want g (t .attempted) cost level) (e6 ∙ ap (weight-of (u .fresh)) e7))
-    ∙ ap (λ (fs : List Bucket). weighed (want (weight-of (u .fresh) (now - u .«at_ms»)) (t .attempted) cost level) rank fs t cost) e1
-    ∙ ap (λ (t : Use). weighed (want (weight-of (u .fresh) (now - u .«at_ms»)) (t .attempted) cost level) rank (refilled-all bs elapsed) t cost) et
+    e ∙ ap (λ (x : Float). weighed x rank fs t cost) (e2 ∙ ap (λ (g : Float). want g (t .attempted) cost level) (e6 ∙ ap (λ (b : Bool). weight-of b idle) ef ∙ ap (weight-of (is-fresh (u .fresh))) e7))
+    ∙ ap (λ (fs : List Bucket). weighed (want (weight-of (is-fresh (u .fresh)) (now - u .«at_ms»)) (t .attempted) cost level) rank fs t cost) e1
+    ∙ ap (λ (t : Use). weighed (want (weight-of (is-fresh (u .fresh)) (now - u .«at_ms»)) (t .attempted) cost level) rank (refilled-all bs elapsed) t cost) et

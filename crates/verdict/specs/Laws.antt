@@ -11,7 +11,7 @@ use lib.Ieee.{Float}
 use Rattle.ieee.specs.Units.{power, units, Amount, Is}
 use Rattle.flow.specs.declared.Bucket.{Bucket}
 use Rattle.flow.specs.declared.Use.{Use}
-use Rattle.flow.specs.Flow.{dims, one, whole, at, bucket-at, credited, refilled-all}
+use Rattle.flow.specs.Flow.{dims, one, whole, at, bucket-at, is-fresh, credited, refilled-all}
 use Rattle.verdict.specs.declared.Outcome.{Outcome}
 use Rattle.verdict.specs.declared.Verdict.the-variants.{Admitted, OverShare, RelayRate}
 use Rattle.verdict.specs.Verdict.{want, weight-of, met, judged}
@@ -25,7 +25,7 @@ module _ (bs : List Bucket) (u : Use) (now elapsed : ℕ) (cost fill level : Lis
   credit d = at (credited u now fill .credit) d
 
   abbrev pub wants : Float
-  wants = want (weight-of (u .fresh) (now - u .«at_ms»)) (met u now fill cost .attempted) cost level
+  wants = want (weight-of (is-fresh (u .fresh)) (now - u .«at_ms»)) (met u now fill cost .attempted) cost level
 
   abbrev pub outcome : Outcome
   outcome = judged bs u now elapsed cost fill level rank

@@ -7,7 +7,7 @@ use lib.Ieee as Ieee
 use lib.Ieee.{Float, binary64, ofBits}
 use Rattle.flow.specs.declared.Bucket.{Bucket}
 use Rattle.flow.specs.declared.Use.{Use}
-use Rattle.flow.specs.Flow.{dims, one, half, two, largest, all, at, bucket-at, credited, fade-to, tried, charged, refilled-all, spent-all}
+use Rattle.flow.specs.Flow.{dims, one, half, two, largest, all, at, bucket-at, is-fresh, credited, fade-to, tried, charged, refilled-all, spent-all}
 use Rattle.verdict.specs.declared.Outcome.{Outcome}
 use Rattle.verdict.specs.declared.Verdict.{Verdict}
 use Rattle.verdict.specs.declared.Verdict.the-variants.{Admitted, OverShare, RelayRate}
@@ -91,4 +91,4 @@ met u now fill cost = tried (fade-to (credited u now fill) now) cost
 -- fresh and idle are those before the fade
 abbrev pub judged : List Bucket → Use → ℕ → ℕ → List Float → List Float → List Float → Float → Outcome
 judged bs u now elapsed cost fill level rank =
-    weighed (want (weight-of (u .fresh) (now - u .«at_ms»)) (met u now fill cost .attempted) cost level) rank (refilled-all bs elapsed) (met u now fill cost) cost
+    weighed (want (weight-of (is-fresh (u .fresh)) (now - u .«at_ms»)) (met u now fill cost .attempted) cost level) rank (refilled-all bs elapsed) (met u now fill cost) cost

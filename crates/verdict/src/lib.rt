@@ -5,6 +5,7 @@ ghost use Rattle.verdict.specs.Verdict as verdicts;
 use flow::Bucket;
 use flow::DIMS;
 use flow::Use;
+use flow::is_fresh;
 use flow::refilled_all;
 use flow::since;
 use flow::spent_all;
@@ -219,7 +220,7 @@ pub fn judged(
     ensures { λ r. ⌜ r ≡ verdicts.judged buckets used now elapsed cost fill level rank ⌝ }
 {
     let full = refilled_all(buckets, elapsed);
-    let weight = weight_of(used.fresh, since(now, used.at_ms));
+    let weight = weight_of(is_fresh(used.fresh), since(now, used.at_ms));
     let next = used.credited(now, fill).fade_to(now).tried(cost);
     let attempted = next.attempted;
     let wants = want(weight, attempted, cost, level);

@@ -35,7 +35,7 @@ fn head_words(h: &Head) -> [u64; HEAD_WORDS] {
     }
     w.push(f.at_ms);
     w.extend(f.admitted.into_iter().chain(o.attempted).chain(o.credit).map(bits));
-    w.extend([o.at_ms, u64::from(o.fresh), s.remaining as u64, s.next as u64, s.at_ms, s.began_ms]);
+    w.extend([o.at_ms, u64::from(o.fresh != 0), s.remaining as u64, s.next as u64, s.at_ms, s.began_ms]);
     w.extend(s.trim.into_iter().chain(s.open).map(bits));
     w.push(s.read_ms);
     w.extend(s.read_admitted.map(bits));
@@ -53,7 +53,7 @@ fn set_head_words(h: &mut Head, w: &[u64; HEAD_WORDS]) {
         *b = Bucket { tokens: f(4 + 3 * i), burst: f(5 + 3 * i), rate_per_ms: f(6 + 3 * i) };
     }
     (h.flow.at_ms, h.flow.admitted) = (w[10], pair(11));
-    (h.overflow.attempted, h.overflow.credit, h.overflow.at_ms, h.overflow.fresh) = (pair(13), pair(15), w[17], w[18] != 0);
+    (h.overflow.attempted, h.overflow.credit, h.overflow.at_ms, h.overflow.fresh) = (pair(13), pair(15), w[17], w[18]);
     (h.scan.remaining, h.scan.next, h.scan.at_ms, h.scan.began_ms) = (w[19] as usize, w[20] as usize, w[21], w[22]);
     (h.scan.trim, h.scan.open, h.scan.read_ms, h.scan.read_admitted) = (pair(23), pair(25), w[27], pair(28));
     (h.visits, h.level) = (w[30], pair(31));

@@ -13,12 +13,9 @@ fn bytes_of<T>(rows: &[T]) -> &[u8] {
     unsafe { std::slice::from_raw_parts(rows.as_ptr().cast(), std::mem::size_of_val(rows)) }
 }
 
-/// Head and memory as bytes; the bytes of the head that belong to no field are left out.
+/// Head and memory as bytes; each byte of the head belongs to a field.
 fn held(s: &Shedder) -> Vec<u8> {
-    let head = bytes_of(std::slice::from_ref(&s.head));
-    let fresh = std::mem::offset_of!(crate::tankpost::Head, overflow.fresh);
-    let mut out = head[..=fresh].to_vec();
-    out.extend(&head[fresh + 8..]);
+    let mut out = bytes_of(std::slice::from_ref(&s.head)).to_vec();
     for rows in [bytes_of(&s.tags), bytes_of(&s.units), bytes_of(&s.uses), bytes_of(&s.counted)] {
         out.extend(rows);
     }

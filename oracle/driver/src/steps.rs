@@ -110,7 +110,7 @@ pub fn a_write(random: &mut Random, known: &[Unit]) -> Step {
             Step::Counted(words, [n, random.sized(), random.sized()])
         }
         5 => Step::Head(random.one(&[10, 21, 22, 27]), random.stamp()),
-        6 => Step::Head(random.one(&[17, 30, 33, 34, 35, 36, 37, 38]), random.word()),
+        6 => Step::Head(random.one(&[17, 18, 30, 33, 34, 35, 36, 37, 38]), random.word()),
         _ => Step::Head(random.one(&[4, 5, 6, 7, 8, 9, 11, 12, 13, 14, 15, 16, 23, 24, 25, 26, 28, 29, 31, 32]), random.float()),
     }
 }

@@ -10,9 +10,6 @@ mul-tags c = search needs
 slice-write-tags : tie.Need-slice-write-tags
 slice-write-tags c = search needs
 
-mark-requires : tie.Need-mark-requires
-mark-requires c κs = search needs
-
 mul-t10 : tie.Need-mul-t10
 mul-t10 c = search needs
 
@@ -39,7 +36,7 @@ same-length-3 c = search needs
 
 returns : tie.Need-returns
 unfolding added
-returns c = simp (c .before .before .before .mark .ensures, c .joined .ensures)
+returns c = simp (c .joined .ensures)
 
 pub add-spec : {M : Type 1} → statement M
 add-spec =
@@ -47,7 +44,6 @@ add-spec =
     (tie.spec
     mul-tags
     slice-write-tags
-    mark-requires
     mul-t10
     slice-set-from-units
     joined-requires
