@@ -42,6 +42,7 @@ use Rattle.fair.proofs.Judging as judging
 use Rattle.fair.proofs.Judging.{bounded-rates}
 use Rattle.fair.proofs.Cutting as cutting
 use Rattle.fair.proofs.Outcome.{numbers-priced}
+use Rattle.fair.proofs.Level.{valued}
 use Rattle.fair.proofs.Begun.{by-dim, fill-lawful, left-tied}
 
 -- ---- a refused call leaves head and memory
@@ -410,9 +411,12 @@ module _ (room : ℕ) (rate ceiling : List ℕ) (rates : shed.all-rates rate ≡
           (modest m)
           (over-of (judged-verdict s ms (whole h .tie) u cost t (clock stamp ms)) (sym (answer-same s ms (whole h .tie) u cost t f) ∙ a))
 
+    fill : (h : List Call) (d : ℕ) → d < dims → calls.Valued (at (calls.fills (calls.state first h)) d)
+    fill h d small = let t = whole h .tie in valued _ (fill-lawful (calls.state first h .head) rate (t .rate-is) rates (t .level-is) d small .0)
+
     pub demanded : calls.Demand rate ceiling first
     unfolding Modest
-    demanded = record { relay = relay; share = share; spared = λ h u cost t f w m a. spared h u cost t f w m a }
+    demanded = record { relay = relay; share = share; spared = λ h u cost t f w m a. spared h u cost t f w m a; fill = fill }
 
 -- THE THEOREM
 pub demand-three : Claim

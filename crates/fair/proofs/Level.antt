@@ -8,15 +8,16 @@ use lib.Dec.{T}
 use lib.IntN.{ℤ}
 use lib.Ieee.{Float, nan, inf, fin, binary64, fits, lt, ne, eq, ofBits, up, down}
 use lib.Ieee.Fits.{down-pos}
-use borrow.Author.Tests.{lt-ltb}
+use borrow.Author.Tests.{lt-ltb, le-leb}
 use Rattle.ieee.specs.Units.{power, units, Amount}
 use Rattle.ieee.proofs.Power.{power-is}
-use Rattle.ieee.proofs.Value.{one-is}
-use Rattle.ieee.proofs.Order.{self, lt-inf}
+use Rattle.ieee.proofs.Value.{one-is, zero-is, amount-value}
+use Rattle.ieee.proofs.Order.{self, lt-inf, le-is}
 use Rattle.ieee.proofs.Laws.{int-is}
 use Rattle.ieee.specs.Extremes.{least, most}
-use Rattle.flow.specs.Flow.{whole, one}
+use Rattle.flow.specs.Flow.{whole, one, nothing}
 use Rattle.ieee.proofs.Extremes.{least-is, most-is}
+use Rattle.fair.specs.Calls.{Valued}
 
 -- a level: an amount of at least 1, or the infinity
 pub data Level (x : Float) : Type 0 where
@@ -71,3 +72,7 @@ fill-is x rate low high (endless e) =
     let i = int-is rate (le-trans (let w : rate ≤ 2 ^ 53 = omega arith in w) (le-of-eq (power-is 53))) in
     let m : 1 * power 1074 ≤ rate * power 1074 = mul-le-mul-right (power 1074) low in
     subst (λ (f : Float). Fill f rate) (sym (ap (λ (z : Float). least z (whole rate)) e ∙ endless-least (whole rate) (i .amount))) (record { amount = i .amount; least = omega (arith, i .worth); most = le-of-eq (i .worth) })
+
+-- an amount has a value to count
+pub valued : (x : Float) → Amount x → Valued x
+valued x a = record { finite = lt-inf x a; not-negative = le-is nothing x (zero-is .amount) a ∙ le-leb (units nothing) (units x) (omega (arith, zero-is .worth)); exact = amount-value x a }

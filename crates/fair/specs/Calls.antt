@@ -9,9 +9,10 @@ use lib.Dec.{T, eqb, ltb}
 use lib.ListN.{length, getD}
 use lib.Ieee as Ieee
 use lib.Ieee.{Float}
+use lib.Ieee.Exact.{HasValue}
 use Rattle.ieee.specs.Units.{power, units}
 use Rattle.verdict.specs.Verdict as verdicts
-use Rattle.flow.specs.Flow.{dims, one, at, is-fresh}
+use Rattle.flow.specs.Flow.{dims, one, nothing, at, is-fresh}
 use Rattle.flow.specs.declared.Use.{Use}
 use Rattle.sender.specs.declared.Unit as unit
 use Rattle.sender.specs.declared.Name.{Name}
@@ -249,6 +250,12 @@ present-after r (e ∷ es) = present r (after e)
 abbrev pub Present : Key → ℕ → List Event → Type 0
 Present r k es = Since (by (judged-on r)) (present-after r) k es
 
+-- ---- a double that has a value to count: finite, not negative, and its exact value is `units` of it, over 2 ^ 1074 (the library's `HasValue`: no not-a-number, no infinity, the sign bit clear, and this quotient)
+pub record Valued (x : Float) : Type 0 where
+  pub finite : Ieee.lt x (Ieee.inf false) ≡ true
+  pub not-negative : Ieee.le nothing x ≡ true
+  pub exact : HasValue x false (units x) (power 1074)
+
 -- ---- THE DEMAND, of every list of calls h, every run of n = suc k calls, every dimension, from the state `first` that a start at these rates left.
 -- "both sides are multiplied through to whole numbers": T in milliseconds, fills in units of 2 ^ -1074, all times 256000, and times 2 ^ 1074 where a fill stands
 pub record Demand (rate ceiling : List ℕ) (first : State) : Type 0 where
@@ -268,6 +275,8 @@ pub record Demand (rate ceiling : List ℕ) (first : State) : Type 0 where
       ≤ 256 * ((4000 + span (events first (Judge u cost t ∷ h)) k)
       * lowest (by (judged-on (key (state first h) u (now (state first h) t)))) (by (fill-on (key (state first h) u (now (state first h) t)) d)) k (events first (Judge u cost t ∷ h))))
       → judges (state first h) u cost t .answer ≡ answer.OverShare → ⊥
+  -- "a fill counts at its double's exact value": whatever calls were made, each fill has one
+  pub fill : (h : List Call) (d : ℕ) → d < dims → Valued (at (fills (state first h)) d)
 
 -- ---- AND IT LASTS: no list of calls leaves head or memory unfit, so questions 3, 4 and 9 are never answered no: a judgement is refused by its own cost or stamp alone, a cut by its cost, a reading never
 pub record Lasting (first : State) : Type 0 where
