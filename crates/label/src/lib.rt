@@ -5,7 +5,7 @@ use sender::Unit;
 ghost use mathlib.Core.Path.{_≡_};
 ghost use lib.ListN.{length, take};
 ghost use Rattle.io.specs.Counts.{Counts};
-ghost use Rattle.text.specs.Page.{page, write};
+ghost use Rattle.text.specs.Page.{page, placed, write};
 ghost use Rattle.text.specs.Order.{less as before};
 ghost use Rattle.label.specs.Label.{label, key-label, v4-label, v6-label};
 
@@ -15,6 +15,7 @@ pub const LABEL_MOST: usize = 68;
 fn key_text(key: PublicKey, out: &mut [u8; LABEL_MOST]) -> usize
     ensures { λ r. ⌜ Counts r (now (out .exit)) ⌝ }
     ensures { λ r. ⌜ take r (now (out .exit)) ≡ key-label key ⌝ }
+    ensures { λ r. ⌜ page (now (out .exit)) r ≡ placed (page (now (out .entry)) 0) (key-label key) ⌝ }
 {
     let colon = text::put(out, 0, b"key:");
     let a = text::put_word(out, colon, key.a);
@@ -26,6 +27,7 @@ fn key_text(key: PublicKey, out: &mut [u8; LABEL_MOST]) -> usize
 fn v4_text(prefix: u16, out: &mut [u8; LABEL_MOST]) -> usize
     ensures { λ r. ⌜ Counts r (now (out .exit)) ⌝ }
     ensures { λ r. ⌜ take r (now (out .exit)) ≡ v4-label prefix ⌝ }
+    ensures { λ r. ⌜ page (now (out .exit)) r ≡ placed (page (now (out .entry)) 0) (v4-label prefix) ⌝ }
 {
     let colon = text::put(out, 0, b"v4:");
     let first = text::put_decimal(out, colon, (prefix / 256) as u64);
@@ -37,6 +39,7 @@ fn v4_text(prefix: u16, out: &mut [u8; LABEL_MOST]) -> usize
 fn v6_text(prefix: u32, out: &mut [u8; LABEL_MOST]) -> usize
     ensures { λ r. ⌜ Counts r (now (out .exit)) ⌝ }
     ensures { λ r. ⌜ take r (now (out .exit)) ≡ v6-label prefix ⌝ }
+    ensures { λ r. ⌜ page (now (out .exit)) r ≡ placed (page (now (out .entry)) 0) (v6-label prefix) ⌝ }
 {
     let colon = text::put(out, 0, b"v6:");
     let first = text::put_hexadecimal(out, colon, (prefix / 65536) as u64);
@@ -45,10 +48,11 @@ fn v6_text(prefix: u32, out: &mut [u8; LABEL_MOST]) -> usize
     text::put(out, second, b"::/32")
 }
 
-// The label at the front of out, which has room for each; the answer is its length.
+// The label at the front of out, which has room for each; every byte behind it is as it was. The answer is its length.
 pub fn label_text(unit: Unit, out: &mut [u8; LABEL_MOST]) -> usize
     ensures { λ r. ⌜ Counts r (now (out .exit)) ⌝ }
     ensures { λ r. ⌜ take r (now (out .exit)) ≡ label unit ⌝ }
+    ensures { λ r. ⌜ page (now (out .exit)) r ≡ placed (page (now (out .entry)) 0) (label unit) ⌝ }
 {
     match unit {
         Unit::Corroborated(key) => key_text(key, out),

@@ -9,9 +9,9 @@ use borrow.Author.Tests.{eq-eqb, ne-eqb}
 use lib.Dec.{eqb}
 use lib.ListN.{length, getD, take, drop, drop-of-length-le}
 use lib.Seq.{drop-cons}
-use Rattle.text.specs.Page.{Page, page, write, writes}
+use Rattle.text.specs.Page.{Page, page, placed, write, writes}
 use Rattle.text.specs.Number.{decimal}
-use Rattle.text.proofs.Writing.{writes-joined, front}
+use Rattle.text.proofs.Writing.{fits, writes-joined, front}
 use Rattle.io.specs.Counts.{Counts}
 use Rattle.sender.specs.declared.Unit.{Unit}
 use Rattle.label.specs.Label.{label}
@@ -97,11 +97,13 @@ head-put h u p e e1 e2 e3 e4 e5 e6 =
 -- ---- the whole text, put into a buffer with room for it
 pub text-put : (h : Shedder) (rows : List (List ℕ)) (out : List ℕ) {p : Page} (after : List ℕ) (r : ℕ) → length (text h rows) ≤ length out
     → p ≡ writes (page out 0) (head-lines h) → page after r ≡ writes p (source-lines rows (reported rows (h .counted)))
-    → Counts r after × (take r after ≡ text h rows)
+    → Counts r after × ((take r after ≡ text h rows) × (page after r ≡ placed (page out 0) (text h rows)))
 unfolding text
 text-put h rows out after r room e f =
-    front out (text h rows) after r room
-    (f
+    let w : page after r ≡ write (page out 0) (text h rows) =
+    f
     ∙ ap (λ (q : Page). writes q (source-lines rows (reported rows (h .counted)))) e
     ∙ sym (writes-append (page out 0) (head-lines h) (source-lines rows (reported rows (h .counted))))
-    ∙ writes-joined (page out 0) (head-lines h ++ source-lines rows (reported rows (h .counted))) (omega arith))
+    ∙ writes-joined (page out 0) (head-lines h ++ source-lines rows (reported rows (h .counted))) (omega arith) in
+    let g = front out (text h rows) after r room w in
+    (g .0, (g .1, w ∙ fits (page out 0) (text h rows) (omega arith)))

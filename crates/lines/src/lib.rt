@@ -3,7 +3,7 @@ ghost use mathlib.Core.Path.{_≡_};
 ghost use Prim.Native.Nat.{_<_, _≤_};
 ghost use lib.ListN.{length, take};
 ghost use Rattle.io.specs.Counts.{Counts};
-ghost use Rattle.text.specs.Page.{page, writes, joined};
+ghost use Rattle.text.specs.Page.{page, placed, writes, joined};
 ghost use Rattle.ranking.specs.Sources as sources;
 ghost use Rattle.lines.specs.Lines as lines;
 use flow::DIMS;
@@ -115,11 +115,12 @@ fn put_sources(out: &mut [u8], at: usize, counted: &[[u64; 8]], n: usize) -> usi
     end
 }
 
-// The whole text at the front of own; the answer is its length.
+// The whole text at the front of own; every byte behind it is as it was. The answer is its length.
 pub fn write_text(head: Shedder, counted: &[[u64; 8]], own: &mut [u8; TEXT_MOST]) -> usize
     requires { ⌜ head .counted ≤ length (now counted) ⌝ }
     ensures { λ r. ⌜ Counts r (now (own .exit)) ⌝ }
     ensures { λ r. ⌜ take r (now (own .exit)) ≡ lines.text head (now (counted .entry)) ⌝ }
+    ensures { λ r. ⌜ page (now (own .exit)) r ≡ placed (page (now (own .entry)) 0) (lines.text head (now (counted .entry))) ⌝ }
 {
     let end = put_head(own, 0, head);
     put_sources(own, end, counted, head.counted)

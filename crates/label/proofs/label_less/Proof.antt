@@ -27,7 +27,7 @@ less-requires : tie.Need-less-requires
 less-requires c κs = search needs
 
 returns : tie.Need-returns
-returns c = c .less .ensures ∙ simp (c .before .before .before .before .before .label-text .ensures .1, c .before .before .before .label-text2 .ensures .1)
+returns c = c .less .ensures ∙ simp (c .before .before .before .before .before .label-text .ensures .1 .0, c .before .before .before .label-text2 .ensures .1 .0)
 
 pub label-less-spec : {M : Type 1} → statement M
 label-less-spec =

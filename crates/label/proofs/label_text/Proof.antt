@@ -1,7 +1,11 @@
 -- `label::label_text` meets its contract: by the unit's case.
+use mathlib.Core.Path.{sym, ap, _∙_}
+use Rattle.sender.specs.declared.Group.{Group}
+use Rattle.sender.specs.declared.Unit.the-variants.{Group as Grouped}
 use native.Mathlib.Omega.{arith}
 use Rattle.label.specs.Label.{label}
-use Rattle.text.proofs.Writing.{front}
+use Rattle.text.proofs.Writing.{fits, front}
+use Rattle.label.proofs.Labels.{front-as}
 use borrow.Author.Needs.{needs}
 use Rattle.label.proofs.label_text.Statement.{statement}
 use Rattle.label.proofs.label_text.Tie as tie
@@ -47,27 +51,29 @@ put-requires-2 c κs = search needs
 
 returns : tie.Need-returns
 unfolding label
-returns c = (c .key-text .ensures .0, cc)
+returns c = front-as _ _ _ _ _ (c .key-text .ensures) cc
 
 returns-2 : tie.Need-returns-2
 unfolding label
-returns-2 c = (c .v4-text .ensures .0, cc)
+returns-2 c = front-as _ _ _ _ _ (c .v4-text .ensures) (c .v4-text .ensures .1 .0 ∙ sym (ap label (c .before .before .before .before .before .before .unit2 .given .1) ∙ ap (λ (g : Group). label (Grouped g)) (c .before .before .before .group .given .1)))
 
 returns-3 : tie.Need-returns-3
 unfolding label
-returns-3 c = (c .v6-text .ensures .0, cc)
+returns-3 c = front-as _ _ _ _ _ (c .v6-text .ensures) (c .v6-text .ensures .1 .0 ∙ sym (ap label (c .before .before .before .before .before .before .unit2 .given .1) ∙ ap (λ (g : Group). label (Grouped g)) (c .before .before .before .group2 .given .1)))
 
 returns-4 : tie.Need-returns-4
 unfolding label
 returns-4 c = let room = c .before .before .put-arg .given .0 .1 in
     let w = front _ _ _ _ (omega arith) (c .put .ensures) in
-    (w .0, cc)
+    let z = c .put .ensures ∙ fits _ _ (omega arith) in
+    front-as _ _ _ _ _ (w .0, (w .1, z)) cc
 
 returns-5 : tie.Need-returns-5
 unfolding label
 returns-5 c = let room = c .before .before .put-arg3 .given .0 .1 in
     let w = front _ _ _ _ (omega arith) (c .put2 .ensures) in
-    (w .0, cc)
+    let z = c .put2 .ensures ∙ fits _ _ (omega arith) in
+    front-as _ _ _ _ _ (w .0, (w .1, z)) cc
 
 pub label-text-spec : {M : Type 1} → statement M
 label-text-spec =

@@ -21,10 +21,10 @@ write-text-requires c κs =
     (sym (c .before .before .memory-whole .ensures) ∙ c .before .if2 .taken)
 
 returns : tie.Need-returns
-returns c = let e = c .before .write-text .ensures in let n : c .before .write-text .result ≡ length (text (c .before .before .before .before .before .before .before .args .head) (c .before .before .before .before .before .before .before .args .counted .now)) = e .0 .1 ∙ ap length (e .1) in let w = taken (c .before .before .before .before .before .before .before .args .head) (c .before .before .before .before .before .before .before .args .tags) (c .before .before .before .before .before .before .before .args .units) (c .before .before .before .before .before .before .before .args .uses) (c .before .before .before .before .before .before .before .args .counted .now) (c .before .before .before .before .before .before .before .args .room) (asked-none (c .before .before .before .before .before .before .before .args .head) (c .before .before .before .before .before .before .before .args .tags) (c .before .before .before .before .before .before .before .args .units) (c .before .before .before .before .before .before .before .args .uses) (c .before .before .before .before .before .before .before .args .counted .now) (c .before .before .before .before .before .before .before .args .room) (sym (c .before .before .before .before .before .before .head-whole .ensures) ∙ c .before .before .before .before .before .if1 .taken) (sym (c .before .before .before .before .memory-whole .ensures) ∙ c .before .before .before .if2 .taken) (omega (arith, n, c .if3 .taken))) in (ap Bytes n ∙ w .0, (e .0, e .1 ∙ w .1))
+returns c = let e = c .before .write-text .ensures in let n : c .before .write-text .result ≡ length (text (c .before .before .before .before .before .before .before .args .head) (c .before .before .before .before .before .before .before .args .counted .now)) = e .0 .1 ∙ ap length (e .1 .0) in let w = taken (c .before .before .before .before .before .before .before .args .head) (c .before .before .before .before .before .before .before .args .tags) (c .before .before .before .before .before .before .before .args .units) (c .before .before .before .before .before .before .before .args .uses) (c .before .before .before .before .before .before .before .args .counted .now) (c .before .before .before .before .before .before .before .args .room) (asked-none (c .before .before .before .before .before .before .before .args .head) (c .before .before .before .before .before .before .before .args .tags) (c .before .before .before .before .before .before .before .args .units) (c .before .before .before .before .before .before .before .args .uses) (c .before .before .before .before .before .before .before .args .counted .now) (c .before .before .before .before .before .before .before .args .room) (sym (c .before .before .before .before .before .before .head-whole .ensures) ∙ c .before .before .before .before .before .if1 .taken) (sym (c .before .before .before .before .memory-whole .ensures) ∙ c .before .before .before .if2 .taken) (omega (arith, n, c .if3 .taken))) in (ap Bytes n ∙ w .0, (e .0, e .1 .0 ∙ w .1))
 
 returns-2 : tie.Need-returns-2
-returns-2 c = let e = c .before .write-text .ensures in let n : c .before .write-text .result ≡ length (text (c .before .before .before .before .before .before .before .args .head) (c .before .before .before .before .before .before .before .args .counted .now)) = e .0 .1 ∙ ap length (e .1) in let w = refused (c .before .before .before .before .before .before .before .args .head) (c .before .before .before .before .before .before .before .args .tags) (c .before .before .before .before .before .before .before .args .units) (c .before .before .before .before .before .before .before .args .uses) (c .before .before .before .before .before .before .before .args .counted .now) (c .before .before .before .before .before .before .before .args .room) 7 refl (asked-room (c .before .before .before .before .before .before .before .args .head) (c .before .before .before .before .before .before .before .args .tags) (c .before .before .before .before .before .before .before .args .units) (c .before .before .before .before .before .before .before .args .uses) (c .before .before .before .before .before .before .before .args .counted .now) (c .before .before .before .before .before .before .before .args .room) (sym (c .before .before .before .before .before .before .head-whole .ensures) ∙ c .before .before .before .before .before .if1 .taken) (sym (c .before .before .before .before .memory-whole .ensures) ∙ c .before .before .before .if2 .taken) (omega (arith, n, c .if3 .left))) in (w .0, ((omega arith, refl), w .1))
+returns-2 c = let e = c .before .write-text .ensures in let n : c .before .write-text .result ≡ length (text (c .before .before .before .before .before .before .before .args .head) (c .before .before .before .before .before .before .before .args .counted .now)) = e .0 .1 ∙ ap length (e .1 .0) in let w = refused (c .before .before .before .before .before .before .before .args .head) (c .before .before .before .before .before .before .before .args .tags) (c .before .before .before .before .before .before .before .args .units) (c .before .before .before .before .before .before .before .args .uses) (c .before .before .before .before .before .before .before .args .counted .now) (c .before .before .before .before .before .before .before .args .room) 7 refl (asked-room (c .before .before .before .before .before .before .before .args .head) (c .before .before .before .before .before .before .before .args .tags) (c .before .before .before .before .before .before .before .args .units) (c .before .before .before .before .before .before .before .args .uses) (c .before .before .before .before .before .before .before .args .counted .now) (c .before .before .before .before .before .before .before .args .room) (sym (c .before .before .before .before .before .before .head-whole .ensures) ∙ c .before .before .before .before .before .if1 .taken) (sym (c .before .before .before .before .memory-whole .ensures) ∙ c .before .before .before .if2 .taken) (omega (arith, n, c .if3 .left))) in (w .0, ((omega arith, refl), w .1))
 
 returns-3 : tie.Need-returns-3
 returns-3 c = let w = refused (c .before .before .before .before .args .head) (c .before .before .before .before .args .tags) (c .before .before .before .before .args .units) (c .before .before .before .before .args .uses) (c .before .before .before .before .args .counted .now) (c .before .before .before .before .args .room) 4 refl (asked-memory (c .before .before .before .before .args .head) (c .before .before .before .before .args .tags) (c .before .before .before .before .args .units) (c .before .before .before .before .args .uses) (c .before .before .before .before .args .counted .now) (c .before .before .before .before .args .room) (sym (c .before .before .before .head-whole .ensures) ∙ c .before .before .if1 .taken) (sym (c .before .memory-whole .ensures) ∙ c .if2 .left)) in (w .0, ((omega arith, refl), w .1))

@@ -22,7 +22,7 @@ same-requires c κs = search needs
 
 returns : tie.Need-returns
 unfolding is-label
-returns c = c .same .ensures ∙ simp (c .before .before .label-text .ensures .1, c .before .before .before .before .unit-in .ensures)
+returns c = c .same .ensures ∙ simp (c .before .before .label-text .ensures .1 .0, c .before .before .before .before .unit-in .ensures)
 
 pub is-label-spec : {M : Type 1} → statement M
 is-label-spec =
