@@ -6,6 +6,7 @@ ghost use Rattle.sender.specs.Sender as sender;
 ghost use Rattle.store.specs.Store as store;
 ghost use Rattle.head.specs.Answers as answers;
 ghost use Rattle.head.specs.Questions as asked;
+ghost use Rattle.head.specs.Bits.{Same-but-nan-bits};
 ghost use Rattle.tally.specs.Counting as counting;
 ghost use Rattle.cut.specs.Cutting as cutting;
 use flow::DIMS;
@@ -143,7 +144,7 @@ pub fn cut(
     cause: Cause,
     cost: [u64; DIMS],
 ) -> Cutting
-    ensures { λ r. ⌜ cutting.cutting r (store.rows (now (tags .exit)) (now (units .exit)) (now (uses .exit))) (now (counted .exit)) ≡ cutting.cut head (store.rows (now (tags .entry)) (now (units .entry)) (now (uses .entry))) (now (counted .entry)) unit cause cost ⌝ }
+    ensures { λ r. ⌜ Same-but-nan-bits (cutting.cutting r (store.rows (now (tags .exit)) (now (units .exit)) (now (uses .exit))) (now (counted .exit))) (cutting.cut head (store.rows (now (tags .entry)) (now (units .entry)) (now (uses .entry))) (now (counted .entry)) unit cause cost) ⌝ }
     ensures { λ r. ⌜ answers.cut-number (r .answer) ≡ asked.cut-asked head (length (now (tags .entry))) (length (now (units .entry))) (length (now (uses .entry))) (length (now (counted .entry))) cost ⌝ }
 {
     let no = head::cut_asked(

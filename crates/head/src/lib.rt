@@ -9,6 +9,7 @@ ghost use Rattle.head.specs.Questions as asked;
 ghost use Rattle.head.specs.Answers as answers;
 ghost use Rattle.head.specs.Readings as readings;
 ghost use Rattle.head.specs.Start as starts;
+ghost use Rattle.head.specs.Bits.{Same-but-nan-bits};
 use flow::Bucket;
 use flow::DIMS;
 use flow::Use;
@@ -444,7 +445,7 @@ pub fn start(
     rate: [u64; DIMS],
     ceiling: [u64; DIMS],
 ) -> Starting
-    ensures { λ r. ⌜ starts.beginning r (wants.hist (now (counts .exit)) (now (sums .exit))) ≡ starts.start head (length (now (tags .entry))) (length (now (units .entry))) (length (now (uses .entry))) (length (now (counted .entry))) (wants.hist (now (counts .entry)) (now (sums .entry))) rate ceiling ⌝ }
+    ensures { λ r. ⌜ Same-but-nan-bits (starts.beginning r (wants.hist (now (counts .exit)) (now (sums .exit)))) (starts.start head (length (now (tags .entry))) (length (now (units .entry))) (length (now (uses .entry))) (length (now (counted .entry))) (wants.hist (now (counts .entry)) (now (sums .entry))) rate ceiling) ⌝ }
     ensures { λ r. ⌜ answers.start-number (r .answer) ≡ asked.start-asked rate (length (now (tags .entry))) (length (now (units .entry))) (length (now (uses .entry))) (length (now (counted .entry))) ⌝ }
 {
     let no = start_asked(rate, tags.len(), units.len(), uses.len(), counted.len());

@@ -5,6 +5,7 @@ ghost use Rattle.head.specs.Numbers as numbers;
 ghost use Rattle.head.specs.Questions as asked;
 ghost use Rattle.head.specs.Answers as answers;
 ghost use Rattle.head.specs.Readings as readings;
+ghost use Rattle.head.specs.Bits.{Same-but-nan-bits};
 use head::BoundedRead;
 use head::Cause;
 use head::Dim;
@@ -53,7 +54,7 @@ pub fn cut_batches(head: Shedder, cause: Cause) -> Reading
 
 // The level of a dimension, as the last scan left it.
 pub fn level(head: Shedder, dim: Dim) -> LevelRead
-    ensures { λ r. ⌜ r ≡ readings.level-read head dim ⌝ }
+    ensures { λ r. ⌜ Same-but-nan-bits r (readings.level-read head dim) ⌝ }
     ensures { λ r. ⌜ answers.level-number r ≡ asked.read-asked head ⌝ }
 {
     if head_whole(head) {

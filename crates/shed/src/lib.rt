@@ -7,6 +7,7 @@ ghost use Rattle.store.specs.Store as store;
 ghost use Rattle.wants.specs.Wants as wants;
 ghost use Rattle.head.specs.Answers as answers;
 ghost use Rattle.head.specs.Questions as asked;
+ghost use Rattle.head.specs.Bits.{Same-but-nan-bits};
 ghost use Rattle.shed.specs.Judging as judging;
 use flow::DIMS;
 use flow::Use;
@@ -225,7 +226,7 @@ pub fn judge(
     cost: [u64; DIMS],
     stamp: u64,
 ) -> Judgement
-    ensures { λ r. ⌜ judging.judgement r (judging.memory (store.rows (now (tags .exit)) (now (units .exit)) (now (uses .exit))) (wants.hist (now (counts .exit)) (now (sums .exit))) (now (counted .exit))) ≡ judging.judge head (judging.memory (store.rows (now (tags .entry)) (now (units .entry)) (now (uses .entry))) (wants.hist (now (counts .entry)) (now (sums .entry))) (now (counted .entry))) unit cost stamp ⌝ }
+    ensures { λ r. ⌜ Same-but-nan-bits (judging.judgement r (judging.memory (store.rows (now (tags .exit)) (now (units .exit)) (now (uses .exit))) (wants.hist (now (counts .exit)) (now (sums .exit))) (now (counted .exit)))) (judging.judge head (judging.memory (store.rows (now (tags .entry)) (now (units .entry)) (now (uses .entry))) (wants.hist (now (counts .entry)) (now (sums .entry))) (now (counted .entry))) unit cost stamp) ⌝ }
     ensures { λ r. ⌜ answers.judge-number (r .answer) ≡ asked.judge-asked head (length (now (tags .entry))) (length (now (units .entry))) (length (now (uses .entry))) (length (now (counted .entry))) cost stamp ⌝ }
 {
     let no = head::judge_asked(

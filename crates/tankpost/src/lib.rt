@@ -8,6 +8,7 @@ ghost use Rattle.store.specs.Store as store;
 ghost use Rattle.wants.specs.Wants as wants;
 ghost use Rattle.head.specs.Start as starts;
 ghost use Rattle.head.specs.Readings as readings;
+ghost use Rattle.head.specs.Bits.{Same-but-nan-bits};
 ghost use Rattle.shed.specs.Judging as judging;
 ghost use Rattle.cut.specs.Cutting as cutting;
 ghost use Rattle.report.specs.Report as reports;
@@ -39,7 +40,7 @@ pub extern "C" fn tankpost_start(
     rate: &[u64; DIMS],
     ceiling: &[u64; DIMS],
 ) -> Answered
-    ensures { λ r. ⌜ calls.started r (wants.hist (now (counts .exit)) (now (sums .exit))) ≡ calls.start-told (starts.start head (length (now (tags .entry))) (length (now (units .entry))) (length (now (uses .entry))) (length (now (counted .entry))) (wants.hist (now (counts .entry)) (now (sums .entry))) (now (rate .entry)) (now (ceiling .entry))) ⌝ }
+    ensures { λ r. ⌜ Same-but-nan-bits (calls.started r (wants.hist (now (counts .exit)) (now (sums .exit)))) (calls.start-told (starts.start head (length (now (tags .entry))) (length (now (units .entry))) (length (now (uses .entry))) (length (now (counted .entry))) (wants.hist (now (counts .entry)) (now (sums .entry))) (now (rate .entry)) (now (ceiling .entry)))) ⌝ }
 {
     let s = head::start(
         head,
@@ -74,7 +75,7 @@ pub extern "C" fn tankpost_judge(
     cost: &[u64; DIMS],
     stamp: u64,
 ) -> Answered
-    ensures { λ r. ⌜ calls.judged r (judging.memory (store.rows (now (tags .exit)) (now (units .exit)) (now (uses .exit))) (wants.hist (now (counts .exit)) (now (sums .exit))) (now (counted .exit))) ≡ calls.judge-told (judging.judge head (judging.memory (store.rows (now (tags .entry)) (now (units .entry)) (now (uses .entry))) (wants.hist (now (counts .entry)) (now (sums .entry))) (now (counted .entry))) (sender.unit-of unit) (now (cost .entry)) stamp) ⌝ }
+    ensures { λ r. ⌜ Same-but-nan-bits (calls.judged r (judging.memory (store.rows (now (tags .exit)) (now (units .exit)) (now (uses .exit))) (wants.hist (now (counts .exit)) (now (sums .exit))) (now (counted .exit)))) (calls.judge-told (judging.judge head (judging.memory (store.rows (now (tags .entry)) (now (units .entry)) (now (uses .entry))) (wants.hist (now (counts .entry)) (now (sums .entry))) (now (counted .entry))) (sender.unit-of unit) (now (cost .entry)) stamp)) ⌝ }
 {
     let j = shed::judge(
         head,
@@ -108,7 +109,7 @@ pub extern "C" fn tankpost_cut(
     cause: u64,
     cost: &[u64; DIMS],
 ) -> Answered
-    ensures { λ r. ⌜ calls.cut r (store.rows (now (tags .exit)) (now (units .exit)) (now (uses .exit))) (now (counted .exit)) ≡ calls.cut-told (cutting.cut head (store.rows (now (tags .entry)) (now (units .entry)) (now (uses .entry))) (now (counted .entry)) (sender.unit-of unit) (numbers.cause-of cause) (now (cost .entry))) ⌝ }
+    ensures { λ r. ⌜ Same-but-nan-bits (calls.cut r (store.rows (now (tags .exit)) (now (units .exit)) (now (uses .exit))) (now (counted .exit))) (calls.cut-told (cutting.cut head (store.rows (now (tags .entry)) (now (units .entry)) (now (uses .entry))) (now (counted .entry)) (sender.unit-of unit) (numbers.cause-of cause) (now (cost .entry)))) ⌝ }
 {
     let c = cut::cut(
         head,
@@ -177,7 +178,7 @@ pub extern "C" fn tankpost_cut_batches(head: Shedder, cause: u64) -> Count
 
 #[no_mangle]
 pub extern "C" fn tankpost_level(head: Shedder, dim: u64) -> Level
-    ensures { λ r. ⌜ r ≡ numbers.read-level (readings.level-read head (numbers.dim-of dim)) ⌝ }
+    ensures { λ r. ⌜ Same-but-nan-bits r (numbers.read-level (readings.level-read head (numbers.dim-of dim))) ⌝ }
 {
     numbers::read_level(readings::level(head, numbers::dim_of(dim)))
 }
