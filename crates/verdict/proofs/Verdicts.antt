@@ -6,7 +6,7 @@ use mathlib.Core.List.{List}
 use lib.Ieee.{Float}
 use Rattle.flow.specs.declared.Bucket.{Bucket}
 use Rattle.flow.specs.declared.Use.{Use}
-use Rattle.flow.specs.Flow.{is-fresh, spent-all, charged, tried, fade-to, credited, refilled-all}
+use Rattle.flow.specs.Flow.{spent-all, charged, tried, fade-to, credited, refilled-all, is-fresh}
 use Rattle.verdict.specs.declared.Outcome.{Outcome}
 use Rattle.verdict.specs.declared.Verdict.{Verdict}
 use Rattle.verdict.specs.Verdict.{is-admitted, settled, either, decided, covers, suffice, leaves, mark-of, weighed, judged, want, weight-of, met}
