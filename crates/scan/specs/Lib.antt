@@ -1,3 +1,4 @@
 pub mod Walking
 pub mod Scanning
 pub mod Trimming
+pub mod Laws

@@ -1,0 +1,106 @@
+-- The laws of a scan (specs/Laws.antt). Assumes nothing.
+use mathlib.Core.Bool.{Bool, true, false}
+use Prim.Native.Nat.{ℕ, _+_}
+use lib.Dec.{eqb, leb, ltb}
+use Rattle.store.specs.Store as store
+use Rattle.wants.specs.Wants.{Hist, cleared}
+use Rattle.head.specs.declared.Shedder.{Shedder}
+use Rattle.head.specs.Numbers.{choose}
+use Rattle.scan.specs.Trimming.{trims-at, trimmed}
+use Rattle.scan.specs.Scanning.{Scanning, Started, scanning, visited, visit, again, ended, ended-at, opened, started, begun, scanned, scanned-from}
+use Rattle.scan.specs.Laws.{Rates, Trims, TrimStays, Levels, LevelStays, Scans}
+use Rattle.scan.proofs.Ranges.{trim-stays, trim-any, trims-stay, levels-least}
+use Rattle.scan.proofs.Judgements.{visits-two, rests}
+
+-- ---- what a visit, a beginning and an end keep, a judgement keeps
+module _ (P : Shedder → Type 0) (at-visit : (h : Shedder) (n : ℕ) → P h → P (visited h n)) (at-begin : (h : Shedder) (t : ℕ) → P h → P (opened h t)) (at-end : (h : Shedder) (g : Hist) → P h → P (trimmed h g)) where
+  visit-keeps : (s : Scanning) → P (s .head) → P (visit s .head)
+  unfolding visit
+  visit-keeps s p = at-visit (s .head) (store.retained (s .rows) (s .head .scan .next) (s .head .scan .«at_ms») (s .head .tracked) .count) p
+
+  again-keeps : (s : Scanning) → P (s .head) → P (again s .head)
+  unfolding again
+  again-keeps s p = go (leb 1 (s .head .scan .remaining))
+    where
+      go : (b : Bool) → P (choose b (visit s) s .head)
+      go true = visit-keeps s p
+      go false = p
+
+  ended-keeps : (h : Shedder) (g : Hist) → P h → P (ended h g)
+  unfolding ended
+  ended-keeps h g p = go (eqb (h .scan .remaining) 0)
+    where
+      go : (b : Bool) → P (choose b (trimmed h g) h)
+      go true = at-end h g p
+      go false = p
+
+  begun-keeps : (h : Shedder) (g : Hist) (t : ℕ) → P h → P (begun h g t .head)
+  unfolding begun
+  begun-keeps h g t p = go (leb 1 (h .scan .remaining)) (ltb t (h .scan .«began_ms» + 500))
+    where
+      go : (b c : Bool) → P (choose b (started h g) (choose c (started h g) (started (opened h t) cleared)) .head)
+      go true c = p
+      go false true = p
+      go false false = at-begin h t p
+
+  keeps : (s : Scanning) (clock : ℕ) → P (s .head) → P (scanned s clock .head)
+  unfolding scanned
+  keeps s clock p = go (begun (s .head) (s .hist) clock) (begun-keeps (s .head) (s .hist) clock p)
+    where
+      by : (b : Started) → P (b .head) → (c : Bool)
+          → P (choose c (ended-at (again (visit (scanning (b .head) (s .rows) (b .hist))))) (scanning (b .head) (s .rows) (b .hist)) .head)
+      by b q true =
+          let v = visit (scanning (b .head) (s .rows) (b .hist)) in
+          ended-keeps (again v .head) (again v .hist) (again-keeps v (visit-keeps (scanning (b .head) (s .rows) (b .hist)) q))
+      by b q false = q
+
+      go : (b : Started) → P (b .head) → P (scanned-from (s .rows) b .head)
+      go b q = by b q (leb 1 (b .head .scan .remaining))
+
+-- ---- the trim
+abbrev Trimmed : Shedder → Type 0
+Trimmed h = Rates h × Trims (h .scan .trim)
+
+visited-trim : (h : Shedder) (n : ℕ) → Trimmed h → Trimmed (visited h n)
+unfolding visited
+visited-trim h n p = p
+
+opened-trim : (h : Shedder) (t : ℕ) → Trimmed h → Trimmed (opened h t)
+unfolding opened
+opened-trim h t p = p
+
+ended-trim : (h : Shedder) (g : Hist) → Trimmed h → Trimmed (trimmed h g)
+unfolding trimmed
+ended-trim h g p = (p .0, trims-stay h g (p .0) (p .1))
+
+pub trim-law : TrimStays
+trim-law = record {
+  each = trim-stays;
+  any = trim-any;
+  ended = λ h g r t. ended-trim h g (r, t) .1;
+  judged = λ s clock r t. keeps Trimmed visited-trim opened-trim ended-trim s clock (r, t) .1;
+}
+
+-- ---- the level
+visited-level : (h : Shedder) (n : ℕ) → Levels (h .level) → Levels (visited h n .level)
+unfolding visited
+visited-level h n p = p
+
+opened-level : (h : Shedder) (t : ℕ) → Levels (h .level) → Levels (opened h t .level)
+unfolding opened
+opened-level h t p = p
+
+ended-level : (h : Shedder) (g : Hist) → Levels (trimmed h g .level)
+unfolding trimmed
+ended-level h g = levels-least _ (trims-at h g)
+
+pub level-law : LevelStays
+level-law = record {
+  each = levels-least;
+  ended = ended-level;
+  judged = keeps (λ (h : Shedder). Levels (h .level)) visited-level opened-level (λ h g p. ended-level h g);
+}
+
+-- ---- the judgements of a scan
+pub scan-law : Scans
+scan-law = record { visits = visits-two; rests = rests }

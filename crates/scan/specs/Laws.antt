@@ -1,0 +1,113 @@
+-- Document 01 on a scan: trim stays in 0.5 to 1, the level stored is at least 1, a scan ends with its 32nd judgement. Laws on the definitions. Statements only; proofs/Laws.antt proves them.
+-- They refuse a definition that trims outside, stores a lower level, or visits other tables, whatever the code does.
+use mathlib.Core.Path.{_≡_}
+use mathlib.Core.Logic.{_⊎_}
+use mathlib.Core.Bool.{Bool, true}
+use mathlib.Core.List.{List}
+use Prim.Native.Nat.{ℕ, zero, suc, _+_, _*_, _%_, _^_, _≤_, _<_}
+use lib.Dec.{T}
+use lib.IntN.{ℤ}
+use lib.ListN.{getD}
+use lib.Ieee as Ieee
+use lib.Ieee.{Float, nan, fin, binary64, fits}
+use Rattle.flow.specs.Flow.{half, one, at, numbers}
+use Rattle.flow.specs.declared.Use.{Use}
+use Rattle.store.specs.Store as store
+use Rattle.store.specs.Store.{Rows}
+use Rattle.wants.specs.Wants.{Hist, cleared}
+use Rattle.head.specs.declared.Scan.{Scan}
+use Rattle.head.specs.declared.Shedder.{Shedder}
+use Rattle.head.specs.Numbers.{dims}
+use Rattle.scan.specs.Walking.{walk-overflow, walk}
+use Rattle.scan.specs.Trimming.{trim-of, levels, opens, trims-at, trimmed}
+use Rattle.scan.specs.Scanning.{Scanning, scanned}
+
+-- ---- the trim: 0.5 ≤ x ≤ 1. A not-a-number is none, since it compares with nothing
+pub record Trim (x : Float) : Type 0 where
+  pub least : Ieee.le half x ≡ true
+  pub most : Ieee.le x one ≡ true
+
+abbrev pub Trims : List Float → Type 0
+Trims xs = (d : ℕ) → d < dims → Trim (at xs d)
+
+-- every rate is a u64
+abbrev pub Rates : Shedder → Type 0
+Rates h = (d : ℕ) → d < dims → getD (h .flow .rate) d 0 < 2 ^ 64
+
+pub record TrimStays : Type 0 where
+  -- for a finite rate (`fin s m e`) and any double as the span, whatever was found and gained
+  pub each : (found trim gain span : Float) (s : Bool) (m : ℕ) (e : ℤ) → T (fits binary64 span) → Trim trim → Trim (trim-of found trim (fin s m e) gain span)
+  -- for any five values: in 0.5 to 1, or the trim before, or a not-a-number
+  pub any : (found trim rate gain span : Float) → Trim (trim-of found trim rate gain span) ⊎ ((trim-of found trim rate gain span ≡ trim) ⊎ (trim-of found trim rate gain span ≡ nan))
+  pub ended : (h : Shedder) (g : Hist) → Rates h → Trims (h .scan .trim) → Trims (trimmed h g .scan .trim)
+  pub judged : (s : Scanning) (clock : ℕ) → Rates (s .head) → Trims (s .head .scan .trim) → Trims (scanned s clock .head .scan .trim)
+
+-- ---- the level stored: at least 1, so never a not-a-number; what a scan stores is, of any values
+abbrev pub Levels : List Float → Type 0
+Levels xs = (d : ℕ) → d < dims → Ieee.le one (at xs d) ≡ true
+
+pub record LevelStays : Type 0 where
+  pub each : (found trim : List Float) → Levels (levels found trim)
+  pub ended : (h : Shedder) (g : Hist) → Levels (trimmed h g .level)
+  pub judged : (s : Scanning) (clock : ℕ) → Levels (s .head .level) → Levels (scanned s clock .head .level)
+
+-- ---- the judgements of a scan
+
+-- Judgement t k got left: the scan begun at the clock t has had k judgements; the next one gets `got` and leaves `left`. Between two of them
+-- all may change but the scan's part of the head.
+pub data Judgement (t : ℕ) : ℕ → Scanning → Scanning → Type 0 where
+  begins : (s : Scanning) → s .head .scan .remaining ≡ 0 → s .head .scan .«began_ms» + 500 ≤ t → Judgement t 0 s (scanned s t)
+  goes-on : {k : ℕ} {got left : Scanning} → Judgement t k got left → suc k < 32 → (s : Scanning) → s .head .scan ≡ left .head .scan → (clock : ℕ) → Judgement t (suc k) s (scanned s clock)
+
+-- what a visit of a table works on
+pub record Swept : Type 0 where
+  pub rows : Rows
+  pub tracked : ℕ
+  pub hist : Hist
+
+abbrev pub held : Shedder → Rows → Hist → Swept
+held h m g = record { rows = m; tracked = h .tracked; hist = g }
+
+-- a table visited at the scan's stamp t: overflow's want first at table 0, then the stale are dropped, then the wants of those kept
+abbrev pub sweep : Use → ℕ → ℕ → Swept → Swept
+sweep overflow t table w =
+    let k = store.retained (w .rows) table t (w .tracked) in
+    record { rows = k .rows; tracked = k .count; hist = walk (k .rows) table t (k .count) (walk-overflow overflow table t (w .hist)) }
+
+-- the histogram is cleared as the scan begins
+abbrev pub begins-with : ℕ → Hist → Hist
+begins-with zero g = cleared
+begins-with (suc k) g = g
+
+-- the level is left as it was
+pub record Keeps (got left : Shedder) : Type 0 where
+  pub level : left .level ≡ got .level
+  pub trim : left .scan .trim ≡ got .scan .trim
+  pub «open» : left .scan .«open» ≡ got .scan .«open»
+
+-- the level is found from the histogram, trimmed and stored
+pub record Stores (got left : Shedder) (g : Hist) : Type 0 where
+  pub «open» : left .scan .«open» ≡ opens g (numbers (got .flow .rate))
+  pub trim : left .scan .trim ≡ trims-at got g
+  pub level : left .level ≡ levels (left .scan .«open») (left .scan .trim)
+
+-- after k judgements of the scan begun at t
+pub record Place (t k : ℕ) (s : Scan) : Type 0 where
+  pub remaining : s .remaining + 2 * k ≡ 64
+  pub next : s .next ≡ 2 * k
+  pub stamp : s .«at_ms» ≡ t
+  pub began : s .«began_ms» ≡ t
+
+-- two tables, 2k and then 2k + 1; the level is stored with the 32nd judgement only, and then no table remains
+pub record Visits (t k : ℕ) (got left : Scanning) : Type 0 where
+  pub place : Place t (suc k) (left .head .scan)
+  pub visits : left .head .visits ≡ (got .head .visits + 2) % 2 ^ 64
+  pub tables : held (left .head) (left .rows) (left .hist)
+      ≡ sweep (got .head .overflow) t (2 * k + 1) (sweep (got .head .overflow) t (2 * k) (held (got .head) (got .rows) (begins-with k (got .hist))))
+  pub before : suc k < 32 → Keeps (got .head) (left .head)
+  pub last : suc k ≡ 32 → Stores (got .head) (left .head) (left .hist)
+
+pub record Scans : Type 0 where
+  pub visits : {t k : ℕ} {got left : Scanning} → Judgement t k got left → Visits t k got left
+  -- no table is visited where no scan runs and none is due
+  pub rests : (s : Scanning) (clock : ℕ) → s .head .scan .remaining ≡ 0 → clock < s .head .scan .«began_ms» + 500 → scanned s clock ≡ s
