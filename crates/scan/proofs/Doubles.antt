@@ -1,15 +1,18 @@
 -- Values that are numbers, finite or infinite: which operations give one, how two compare, what a clamp leaves. Assumes nothing.
 use mathlib.Core.Path.{_≡_, refl, sym, ap, _∙_, subst}
+use mathlib.Core.Logic.{_⊎_, inl, inr}
 use mathlib.Core.Bool.{Bool, true, false, not, _&&_, _||_, Bool·beq, cond, true≢false}
 use Prim.Native.Nat.{ℕ, zero, suc, _+_, _-_, _*_, _^_, _≤_}
 use native.Mathlib.Omega.{arith}
 use native.Mathlib.Decide.{decLe}
-use lib.Dec.{ltb, eqb}
+use lib.Dec.{T, ltb, eqb, ltb→lt}
 use lib.IntN.{ℤ}
 use lib.Ieee as Ieee
 use lib.Ieee.{Float, nan, inf, fin, binary64, low, emax, up, down, below, level, odd, round, ofBits, lt, le, unlike}
 use lib.Ieee.Fits.{round-is, down-pos}
 use lib.Ieee.Compare.{nan-differs}
+use lib.Ieee.Positive.{positive, above, above-of-le, between, le-trans-positive}
+use Rattle.ieee.proofs.Order.{passed}
 use borrow.Author.Tests.{lt-ltb, le-ltb, ltb-true, ltb-false, eq-eqb, ne-eqb}
 use Rattle.ieee.specs.Extremes.{clamped, most}
 use Rattle.flow.specs.Flow.{nothing, half, one}
@@ -105,78 +108,81 @@ not-lt (fin s m e) (inf true) finite infinite h = refl
 not-lt (fin s m e) (inf false) finite infinite h = absurd (true≢false h)
 not-lt (fin s m e) (fin t n d) finite finite h = not-below s t (m * up e * down d) (n * up d * down e) h
 
--- ---- 0.5 and 1
-half-number : Number half
-unfolding ofBits
-half-number = finite
+holds : {b : Bool} → T b → b ≡ true
+holds {b = true} t = refl
+holds {b = false} t = absurd t
 
-one-number : Number one
-unfolding ofBits
-one-number = finite
-
-pub one-trim : Trim one
-unfolding ofBits le
-one-trim = record { least = refl; most = refl }
-
-half-half : le half half ≡ true
-unfolding ofBits le
-half-half = refl
-
-one-one : le one one ≡ true
-unfolding ofBits le
-one-one = refl
-
--- ---- a number clamped to 0.5 and 1 is a trim
-pub clamp-trim : (x : Float) → Number x → Trim (clamped x half one)
-clamp-trim x n = lowered (cond (lt x half) half x) (raised (lt x half) refl) (pick (lt x half) half x half-number n)
+-- from a finite value above zero upward: a ≤ b ≤ x
+pub le-up : (a b x : Float) → T (positive a) → T (positive b) → le a b ≡ true → le b x ≡ true → le a x ≡ true
+le-up a b x p q h k = go x (above-of-le b x q (passed k)) (passed k)
   where
-    raised : (b : Bool) → lt x half ≡ b → le half (cond b half x) ≡ true
-    raised true e = half-half
-    raised false e = not-lt x half n half-number e
+    to-infinity : (a : Float) → T (positive a) → le a (inf false) ≡ true
+    to-infinity (fin false m e) p = unfold le in refl
 
-    lowered : (r : Float) → le half r ≡ true → Number r → Trim (cond (lt one r) one r)
-    lowered r l k = by (lt one r) refl
+    go : (x : Float) → T (above x) → T (le b x) → le a x ≡ true
+    go (inf false) r k = to-infinity a p
+    go (fin false m e) r k = holds (le-trans-positive a b (fin false m e) p q r (passed h) k)
+
+half-positive : T (positive half)
+unfolding ofBits
+half-positive = tt
+
+one-positive : T (positive one)
+unfolding ofBits
+one-positive = tt
+
+-- ---- a trim is finite and above zero
+pub trim-positive : (x : Float) → Trim x → T (positive x)
+trim-positive x t = between half x one half-positive one-positive (passed (t .least)) (passed (t .most))
+
+pub data Finite : Float → Type 0 where
+  some : {s : Bool} {m : ℕ} {e : ℤ} → (m ≡ 0 → ⊥) → Finite (fin s m e)
+
+pub positive-finite : (x : Float) → T (positive x) → Finite x
+positive-finite (fin false m e) p = some (λ (z : m ≡ 0). omega (arith, ltb→lt 0 m p))
+
+positive-number : (x : Float) → T (positive x) → Number x
+positive-number (fin false m e) p = finite
+
+-- ---- a number clamped to two trims is a trim
+pub clamp-trim : (x low high : Float) → Number x → Trim low → Trim high → Trim (clamped x low high)
+clamp-trim x low high n l h = lowered (cond (lt x low) low x) (raised (lt x low) refl) (pick (lt x low) low x (number low l) n)
+  where
+    number : (y : Float) → Trim y → Number y
+    number y t = positive-number y (trim-positive y t)
+
+    raised : (b : Bool) → lt x low ≡ b → le half (cond b low x) ≡ true
+    raised true e = l .least
+    raised false e = le-up half low x half-positive (trim-positive low l) (l .least) (not-lt x low n (number low l) e)
+
+    lowered : (r : Float) → le half r ≡ true → Number r → Trim (cond (lt high r) high r)
+    lowered r k m = by (lt high r) refl
       where
-        by : (b : Bool) → lt one r ≡ b → Trim (cond b one r)
-        by true e = one-trim
-        by false e = record { least = l; most = not-lt one r one-number k e }
+        by : (b : Bool) → lt high r ≡ b → Trim (cond b high r)
+        by true e = h
+        by false e =
+            let p = not-lt high r (number high h) m e in
+            let q = between half r high half-positive (trim-positive high h) (passed k) (passed p) in
+            record { least = k; most = holds (le-trans-positive r high one q (trim-positive high h) one-positive (passed p) (passed (h .most))) }
 
 -- clamped to numbers it is a number
 pub clamp-number : (x low high : Float) → Number x → Number low → Number high → Number (clamped x low high)
 clamp-number x low high n l h = pick (lt high (cond (lt x low) low x)) high (cond (lt x low) low x) h (pick (lt x low) low x l n)
 
--- ---- a trim is finite and not zero
-pub data Finite : Float → Type 0 where
-  some : {s : Bool} {m : ℕ} {e : ℤ} → (m ≡ 0 → ⊥) → Finite (fin s m e)
+-- ---- a number or not
+pub number-or-nan : (x : Float) → Number x ⊎ (x ≡ nan)
+number-or-nan nan = inr refl
+number-or-nan (inf s) = inl infinite
+number-or-nan (fin s m e) = inl finite
 
-zero-below : (s : Bool) (e : ℤ) → le half (fin s 0 e) ≡ false
-unfolding ofBits le
-zero-below true e = rw (ne-eqb (1 * 1 * down e) (0 * up e * 2) (λ z. omega (arith, down-pos e))) refl
-zero-below false e = rw (le-ltb (1 * 1 * down e) (0 * up e * 2) (omega arith), ne-eqb (1 * 1 * down e) (0 * up e * 2) (λ z. omega (arith, down-pos e))) refl
-
-pub trim-finite : (x : Float) → Trim x → Finite x
-unfolding le ofBits
-trim-finite x t = go x (t .least) (t .most)
+-- ---- the larger of a number and a value of at least 1 is at least 1
+pub most-least : (x low : Float) → Number x → T (positive low) → le one low ≡ true → le one (most x low) ≡ true
+most-least x low n p h = either (Ieee.ne x x)
   where
-    go : (x : Float) → le half x ≡ true → le x one ≡ true → Finite x
-    go nan l m = absurd (true≢false (sym l))
-    go (inf true) l m = absurd (true≢false (sym l))
-    go (inf false) l m = absurd (true≢false (sym m))
-    go (fin s n e) l m = some (λ z. true≢false (sym l ∙ ap (λ (n : ℕ). le half (fin s n e)) z ∙ zero-below s e))
+    larger : (c : Bool) → lt x low ≡ c → le one (cond c low x) ≡ true
+    larger true e = h
+    larger false e = le-up one low x one-positive p h (not-lt x low n (positive-number low p) e)
 
--- ---- the larger of a value and 1 is at least 1
-equals-itself : (x : Float) → Ieee.ne x x ≡ false → Number x
-equals-itself nan e = absurd (true≢false (sym nan-differs ∙ e))
-equals-itself (inf s) e = infinite
-equals-itself (fin s m d) e = finite
-
-pub most-one : (x : Float) → le one (most x one) ≡ true
-most-one x = go (Ieee.ne x x) refl
-  where
-    go : (b : Bool) → Ieee.ne x x ≡ b → le one (cond b one (cond (lt x one) one x)) ≡ true
-    go true e = one-one
-    go false e = by (lt x one) refl
-      where
-        by : (c : Bool) → lt x one ≡ c → le one (cond c one x) ≡ true
-        by true f = one-one
-        by false f = not-lt x one (equals-itself x e) one-number f
+    either : (b : Bool) → le one (cond b low (cond (lt x low) low x)) ≡ true
+    either true = h
+    either false = larger (lt x low) refl

@@ -14,6 +14,16 @@ use Rattle.scan.specs.Scanning.{Scanning, scanning, visited, visit, agai
 use Rattle.scan.specs.Laws.{Judgement, begins, goes-on, held, sweep, begins-with, Keeps, Stores, Place, Visits}
 use Rattle.scan.proofs.Scanning.{scanned-idle}
 
+-- ---- a choice by a test of numbers
+tested : {A : Type 0} (m n : ℕ) (a b : A) → m ≤ n → choose (leb m n) a b ≡ a
+tested m n a b l = simp (le-leb m n l)
+
+equals : {A : Type 0} (m n : ℕ) (a b : A) → m ≡ n → choose (eqb m n) a b ≡ a
+equals m n a b e = simp (eq-eqb m n e)
+
+differs : {A : Type 0} (m n : ℕ) (a b : A) → (m ≡ n → ⊥) → choose (eqb m n) a b ≡ b
+differs m n a b e = simp (ne-eqb m n e)
+
 -- ---- the two visits of a judgement
 running : (s : Scanning) (clock : ℕ) → leb 1 (s .head .scan .remaining) ≡ true → scanned s clock ≡ ended-at (again (visit s))
 unfolding scanned begun
@@ -24,9 +34,10 @@ beginning : (s : Scanning) (t : ℕ) → s .head .scan .remaining ≡ 0 → s .h
 unfolding scanned begun opened
 beginning s t z d = simp (lt-leb 1 (s .head .scan .remaining) (omega arith), le-ltb t (s .head .scan .«began_ms» + 500) d)
 
-both : (s : Scanning) → leb 1 (s .head .scan .remaining - 1) ≡ true → again (visit s) ≡ visit (visit s)
+-- the test is read off the definition
+both : (s : Scanning) → 2 ≤ s .head .scan .remaining → again (visit s) ≡ visit (visit s)
 unfolding again visit visited
-both s e = simp e
+both s l = tested _ (s .head .scan .remaining - 1) (visit (visit s)) (visit s) (omega arith)
 
 place-twice : (t k : ℕ) (s : Scanning) → k < 32 → Place t k (s .head .scan) → Place t (suc k) (visit (visit s) .head .scan)
 unfolding visit visited
@@ -44,37 +55,34 @@ tables-twice s = refl
 
 -- ---- the end of a judgement: the level is stored where no table remains
 module _ (h : Shedder) (g : Hist) where
-  ended-place : (t k : ℕ) → Place t k (h .scan) → Place t k (ended h g .scan)
-  unfolding ended trimmed
-  ended-place t k p = go (eqb (h .scan .remaining) 0)
+  pub ended-by : (P : Shedder → Type 0) → P (trimmed h g) → P h → P (ended h g)
+  unfolding ended
+  ended-by P p q = go (eqb (h .scan .remaining) _)
     where
-      go : (b : Bool) → Place t k (choose b (trimmed h g) h .scan)
-      go true = record { remaining = p .remaining; next = p .next; stamp = p .stamp; began = p .began }
-      go false = p
+      go : (b : Bool) → P (choose b (trimmed h g) h)
+      go true = p
+      go false = q
+
+  ended-place : (t k : ℕ) → Place t k (h .scan) → Place t k (ended h g .scan)
+  unfolding trimmed
+  ended-place t k p = ended-by (λ (r : Shedder). Place t k (r .scan)) (record { remaining = p .remaining; next = p .next; stamp = p .stamp; began = p .began }) p
 
   ended-visits : ended h g .visits ≡ h .visits
-  unfolding ended trimmed
-  ended-visits = go (eqb (h .scan .remaining) 0)
-    where
-      go : (b : Bool) → choose b (trimmed h g) h .visits ≡ h .visits
-      go true = refl
-      go false = refl
+  unfolding trimmed
+  ended-visits = ended-by (λ (r : Shedder). r .visits ≡ h .visits) refl refl
 
   ended-tracked : ended h g .tracked ≡ h .tracked
-  unfolding ended trimmed
-  ended-tracked = go (eqb (h .scan .remaining) 0)
-    where
-      go : (b : Bool) → choose b (trimmed h g) h .tracked ≡ h .tracked
-      go true = refl
-      go false = refl
+  unfolding trimmed
+  ended-tracked = ended-by (λ (r : Shedder). r .tracked ≡ h .tracked) refl refl
 
-  not-ended : (h .scan .remaining ≡ 0 → ⊥) → ended h g ≡ h
+  -- while a judgement more is to come, and after the last
+  not-ended : 2 ≤ h .scan .remaining → ended h g ≡ h
   unfolding ended
-  not-ended n = simp (ne-eqb (h .scan .remaining) 0 n)
+  not-ended l = differs (h .scan .remaining) _ (trimmed h g) h (λ e. omega arith)
 
   is-ended : h .scan .remaining ≡ 0 → ended h g ≡ trimmed h g
   unfolding ended
-  is-ended z = simp (eq-eqb (h .scan .remaining) 0 z)
+  is-ended e = equals (h .scan .remaining) _ (trimmed h g) h (omega arith)
 
 -- ---- a judgement of a scan that runs: what it leaves. The histogram is the one that it got, or cleared where the scan begins
 abbrev twice : Scanning → Scanning
@@ -90,7 +98,7 @@ module _ (t k : ℕ) (s : Scanning) (l : k < 32) (p : Place t k (s .head .scan))
       ∙ ap (λ (n : ℕ). sweep (s .head .overflow) t (n + 1) (sweep (s .head .overflow) t n (held (s .head) (s .rows) (s .hist)))) (p .next)
 
   turn-before : suc k < 32 → Keeps (s .head) (ended (twice s .head) (twice s .hist))
-  turn-before m = subst (Keeps (s .head)) (sym (not-ended (twice s .head) (twice s .hist) (λ z. omega (arith, place-twice t k s l p .remaining)))) kept
+  turn-before m = subst (Keeps (s .head)) (sym (not-ended (twice s .head) (twice s .hist) (omega (arith, place-twice t k s l p .remaining)))) kept
     where
       kept : Keeps (s .head) (twice s .head)
       kept = unfold visit visited in record { level = refl; trim = refl; «open» = refl }
@@ -103,7 +111,7 @@ module _ (t k : ℕ) (s : Scanning) (l : k < 32) (p : Place t k (s .head .scan))
 
   turn : (g : Hist) → s .hist ≡ begins-with k g → Visits t k (scanning (s .head) (s .rows) g) (ended-at (again (visit s)))
   turn g e =
-      subst (λ (r : Scanning). Visits t k (scanning (s .head) (s .rows) g) (ended-at r)) (sym (both s (le-leb 1 (s .head .scan .remaining - 1) (omega (arith, p .remaining)))))
+      subst (λ (r : Scanning). Visits t k (scanning (s .head) (s .rows) g) (ended-at r)) (sym (both s (omega (arith, p .remaining))))
       (record {
         place = ended-place (twice s .head) (twice s .hist) t (suc k) (place-twice t k s l p);
         visits = ended-visits (twice s .head) (twice s .hist) ∙ visits-twice s;

@@ -10,7 +10,7 @@ use Rattle.scan.specs.Trimming.{trims-at, trimmed}
 use Rattle.scan.specs.Scanning.{Scanning, Started, scanning, visited, visit, again, ended, ended-at, opened, started, begun, scanned, scanned-from}
 use Rattle.scan.specs.Laws.{Rates, Trims, TrimStays, Levels, LevelStays, Scans}
 use Rattle.scan.proofs.Ranges.{trim-stays, trim-any, trims-stay, levels-least}
-use Rattle.scan.proofs.Judgements.{visits-two, rests}
+use Rattle.scan.proofs.Judgements.{ended-by, visits-two, rests}
 
 -- ---- what a visit, a beginning and an end keep, a judgement keeps
 module _ (P : Shedder → Type 0) (at-visit : (h : Shedder) (n : ℕ) → P h → P (visited h n)) (at-begin : (h : Shedder) (t : ℕ) → P h → P (opened h t)) (at-end : (h : Shedder) (g : Hist) → P h → P (trimmed h g)) where
@@ -20,18 +20,10 @@ module _ (P : Shedder → Type 0) (at-visit : (h : Shedder) (n : ℕ) → P h �
 
   again-keeps : (s : Scanning) → P (s .head) → P (again s .head)
   unfolding again
-  again-keeps s p = go (leb 1 (s .head .scan .remaining))
+  again-keeps s p = go (leb _ (s .head .scan .remaining))
     where
       go : (b : Bool) → P (choose b (visit s) s .head)
       go true = visit-keeps s p
-      go false = p
-
-  ended-keeps : (h : Shedder) (g : Hist) → P h → P (ended h g)
-  unfolding ended
-  ended-keeps h g p = go (eqb (h .scan .remaining) 0)
-    where
-      go : (b : Bool) → P (choose b (trimmed h g) h)
-      go true = at-end h g p
       go false = p
 
   begun-keeps : (h : Shedder) (g : Hist) (t : ℕ) → P h → P (begun h g t .head)
@@ -47,15 +39,15 @@ module _ (P : Shedder → Type 0) (at-visit : (h : Shedder) (n : ℕ) → P h �
   unfolding scanned
   keeps s clock p = go (begun (s .head) (s .hist) clock) (begun-keeps (s .head) (s .hist) clock p)
     where
-      by : (b : Started) → P (b .head) → (c : Bool)
-          → P (choose c (ended-at (again (visit (scanning (b .head) (s .rows) (b .hist))))) (scanning (b .head) (s .rows) (b .hist)) .head)
-      by b q true =
-          let v = visit (scanning (b .head) (s .rows) (b .hist)) in
-          ended-keeps (again v .head) (again v .hist) (again-keeps v (visit-keeps (scanning (b .head) (s .rows) (b .hist)) q))
+      by : (b : Scanning) → P (b .head) → (c : Bool) → P (choose c (ended-at (again (visit b))) b .head)
+      by b q true = ended-by (again (visit b) .head) (again (visit b) .hist) P (at-end _ _ r) r
+        where
+          r : P (again (visit b) .head)
+          r = again-keeps (visit b) (visit-keeps b q)
       by b q false = q
 
       go : (b : Started) → P (b .head) → P (scanned-from (s .rows) b .head)
-      go b q = by b q (leb 1 (b .head .scan .remaining))
+      go b q = by (scanning (b .head) (s .rows) (b .hist)) q (leb 1 (b .head .scan .remaining))
 
 -- ---- the trim
 abbrev Trimmed : Shedder → Type 0

@@ -10,7 +10,7 @@ use lib.Dec.{T, eqb, leb, ltb, ltb→lt, lit<, lit≤}
 use lib.IntN.{ℤ, pos}
 use lib.ListN.{getD}
 use lib.Ieee as Ieee
-use lib.Ieee.{Float, nan, inf, fin, binary64, fits, round, ofBits, lt, up, down}
+use lib.Ieee.{Float, nan, inf, fin, binary64, fits, round, ofBits, lt, le, ne, up, down}
 use lib.Ieee.Exact.{HasValue, round-exact}
 use lib.Ieee.Fits.{and-r, down-pos, div-fits}
 use Rattle.ieee.specs.Units.{power, units, Amount}
@@ -29,7 +29,7 @@ use Rattle.head.specs.declared.Shedder.{Shedder}
 use Rattle.head.specs.Numbers.{dims}
 use Rattle.scan.specs.Trimming.{is-finite, twentieth, step-of, trim-of, trims, trims-at, levels, opens, span-of}
 use Rattle.scan.specs.Laws.{Trim, Trims, Rates, Levels}
-use Rattle.scan.proofs.Doubles.{Number, infinite, finite, Finite, some, add-number, add-to, mul-number, div-number, clamp-number, clamp-trim, one-trim, trim-finite, most-one}
+use Rattle.scan.proofs.Doubles.{Number, infinite, finite, Finite, some, add-number, add-to, mul-number, div-number, clamp-number, clamp-trim, trim-positive, positive-finite, number-or-nan, most-least}
 
 -- ---- a double above zero, divided by 1, is finite and not zero
 fits-top : (s : Bool) (m : ℕ) (e : ℤ) → T (fits binary64 (fin s m e)) → m * up e < power 1024 * down e
@@ -112,38 +112,41 @@ unfolding step-of
 step-number s m e gained span h k =
     clamp-number _ _ _ (plus-one _ (times _ _ k (less-one _ (div-number s m e gained h)))) (twentieth-finite .0) (twentieth-finite .1)
 
-pub trim-stays : (found trim gain span : Float) (s : Bool) (m : ℕ) (e : ℤ) → T (fits binary64 span) → Trim trim → Trim (trim-of found trim (fin s m e) gain span)
-unfolding trim-of
-trim-stays found trim gain span s m e f t = go (is-finite found) (lt nothing span) (lt nothing (Ieee.div binary64 gain span)) refl refl
-  where
-    go : (a b c : Bool) → lt nothing span ≡ b → lt nothing (Ieee.div binary64 gain span) ≡ c
-        → Trim (cond a (cond b (cond c (clamped (Ieee.mul binary64 trim (step-of (fin s m e) (Ieee.div binary64 gain span) span)) half one) trim) trim) one)
-    go false b c p q = one-trim
-    go true false c p q = t
-    go true true false p q = t
-    go true true true p q = clamp-trim _ (times trim _ (trim-finite trim t) (step-number s m e _ span q (span-finite gain span f p q)))
+-- ---- the trim, by its cases. Its bounds, and the trim where the level found is not finite, are read off the definition: they have to be trims themselves
+module _ (found trim rate gain span : Float) where
+  gained : Float
+  gained = Ieee.div binary64 gain span
 
--- ---- of any values
-number-or-nan : (x : Float) → Number x ⊎ (x ≡ nan)
-number-or-nan nan = inr refl
-number-or-nan (inf s) = inl infinite
-number-or-nan (fin s m e) = inl finite
+  product : Float
+  product = Ieee.mul binary64 trim (step-of rate gained span)
+
+  trim-by : (P : Float → Type 0) → P trim → ((x : Float) → Trim x → P x)
+      → ((low high : Float) → Trim low → Trim high → lt nothing span ≡ true → lt nothing gained ≡ true → P (clamped product low high))
+      → P (trim-of found trim rate gain span)
+  unfolding trim-of gained product
+  trim-by P before inside stepped =
+      go _ _ _ (is-finite found) (lt nothing span) (lt nothing gained) refl refl
+      (unfold le ofBits in record { least = refl; most = refl }) (unfold le ofBits in record { least = refl; most = refl }) (unfold le ofBits in record { least = refl; most = refl })
+    where
+      go : (low high whole : Float) (a b c : Bool) → lt nothing span ≡ b → lt nothing gained ≡ c → Trim low → Trim high → Trim whole
+          → P (cond a (cond b (cond c (clamped product low high) trim) trim) whole)
+      go low high whole false b c p q l h w = inside whole w
+      go low high whole true false c p q l h w = before
+      go low high whole true true false p q l h w = before
+      go low high whole true true true p q l h w = stepped low high l h p q
+
+pub trim-stays : (found trim gain span : Float) (s : Bool) (m : ℕ) (e : ℤ) → T (fits binary64 span) → Trim trim → Trim (trim-of found trim (fin s m e) gain span)
+unfolding gained product
+trim-stays found trim gain span s m e f t =
+    trim-by found trim (fin s m e) gain span Trim t (λ x t. t)
+    (λ low high l h p q. clamp-trim _ low high (times trim _ (positive-finite trim (trim-positive trim t)) (step-number s m e _ span q (span-finite gain span f p q))) l h)
 
 pub trim-any : (found trim rate gain span : Float) → Trim (trim-of found trim rate gain span) ⊎ ((trim-of found trim rate gain span ≡ trim) ⊎ (trim-of found trim rate gain span ≡ nan))
-unfolding trim-of
-trim-any found trim rate gain span = go (is-finite found) (lt nothing span) (lt nothing (Ieee.div binary64 gain span))
-  where
-    product : Float
-    product = Ieee.mul binary64 trim (step-of rate (Ieee.div binary64 gain span) span)
-
-    Kept : Float → Type 0
-    Kept x = Trim x ⊎ ((x ≡ trim) ⊎ (x ≡ nan))
-
-    go : (a b c : Bool) → Kept (cond a (cond b (cond c (clamped product half one) trim) trim) one)
-    go false b c = inl one-trim
-    go true false c = inr (inl refl)
-    go true true false = inr (inl refl)
-    go true true true = elim (number-or-nan product) [ inl n ↦ inl (clamp-trim product n) | inr e ↦ inr (inr (ap (λ (x : Float). clamped x half one) e ∙ clamped-nan half one)) ]
+trim-any found trim rate gain span =
+    trim-by found trim rate gain span (λ (x : Float). Trim x ⊎ ((x ≡ trim) ⊎ (x ≡ nan))) (inr (inl refl)) (λ x t. inl t)
+    (λ low high l h p q. elim (number-or-nan (product found trim rate gain span)) [
+      inl n ↦ inl (clamp-trim _ low high n l h)
+      | inr e ↦ inr (inr (ap (λ (x : Float). clamped x low high) e ∙ clamped-nan low high)) ])
 
 -- ---- in each dimension
 -- a u64 as a double is finite
@@ -176,8 +179,11 @@ trims-stay h g r t d l =
     span-fits : (a b : ℕ) → T (fits binary64 (span-of a b))
     span-fits a b = unfold span-of in div-fits binary64 (flow.whole (a - b)) flow.thousand
 
+-- ---- the level stored: of a not-a-number as of a number
 pub levels-least : (found trim : List Float) → Levels (levels found trim)
 unfolding levels
 levels-least found trim d l =
-    subst (λ (x : Float). Ieee.le one x ≡ true) (sym (upto-at nan (λ (d : ℕ). most (Ieee.mul binary64 (at found d) (at trim d)) one) dims zeros d l (lit≤ tt)))
-    (most-one (Ieee.mul binary64 (at found d) (at trim d)))
+    subst (λ (x : Float). le one x ≡ true) (sym (upto-at nan _ dims zeros d l (lit≤ tt)))
+    (elim (number-or-nan (Ieee.mul binary64 (at found d) (at trim d))) [
+      inr e ↦ rw e (unfold le ne ofBits in refl)
+      | inl n ↦ most-least (Ieee.mul binary64 (at found d) (at trim d)) _ n (unfold ofBits in tt) (unfold le ofBits in refl) ])
