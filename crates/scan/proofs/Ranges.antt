@@ -145,8 +145,9 @@ pub trim-any : (found trim rate gain span : Float) → Trim (trim-of found trim 
 trim-any found trim rate gain span =
     trim-by found trim rate gain span (λ (x : Float). Trim x ⊎ ((x ≡ trim) ⊎ (x ≡ nan))) (inr (inl refl)) (λ x t. inl t)
     (λ low high l h p q. elim (number-or-nan (product found trim rate gain span)) [
-      inl n ↦ inl (clamp-trim _ low high n l h)
-      | inr e ↦ inr (inr (ap (λ (x : Float). clamped x low high) e ∙ clamped-nan low high)) ])
+      | inl n ↦ inl (clamp-trim _ low high n l h)
+      | inr e ↦ inr (inr (ap (λ (x : Float). clamped x low high) e ∙ clamped-nan low high))
+    ])
 
 -- ---- in each dimension
 -- a u64 as a double is finite
@@ -183,7 +184,8 @@ trims-stay h g r t d l =
 pub levels-least : (found trim : List Float) → Levels (levels found trim)
 unfolding levels
 levels-least found trim d l =
-    subst (λ (x : Float). le one x ≡ true) (sym (upto-at nan _ dims zeros d l (lit≤ tt)))
+    subst (λ (x : Float). le one x ≡ true) (sym (upto-at nan _ _ zeros d (omega arith) (lit≤ tt)))
     (elim (number-or-nan (Ieee.mul binary64 (at found d) (at trim d))) [
-      inr e ↦ rw e (unfold le ne ofBits in refl)
-      | inl n ↦ most-least (Ieee.mul binary64 (at found d) (at trim d)) _ n (unfold ofBits in tt) (unfold le ofBits in refl) ])
+      | inr e ↦ rw e (unfold le ne ofBits in refl)
+      | inl n ↦ most-least (Ieee.mul binary64 (at found d) (at trim d)) _ n (unfold ofBits in tt) (unfold le ofBits in refl)
+    ])

@@ -214,7 +214,7 @@ fn again(
     ensures { λ r. ⌜ scanning.scanning r (store.rows (now (tags .exit)) (now (units .exit)) (now (uses .exit))) (wants.hist (now (counts .exit)) (now (sums .exit))) ≡ scanning.again (scanning.scanning h (store.rows (now (tags .entry)) (now (units .entry)) (now (uses .entry))) (wants.hist (now (counts .entry)) (now (sums .entry)))) ⌝ }
 {
     let s = h.scan;
-    if 1 <= s.remaining {
+    if s.remaining >= 1 {
         let overflow = h.overflow;
         let n = swept(
             tags,
