@@ -176,8 +176,8 @@ number-or-nan (inf s) = inl infinite
 number-or-nan (fin s m e) = inl finite
 
 -- ---- the larger of a number and a value of at least 1 is at least 1
-pub most-least : (x low : Float) → Number x → T (positive low) → le one low ≡ true → le one (most x low) ≡ true
-most-least x low n p h = either (Ieee.ne x x)
+pub most-least : (x low : Float) → Number x → le one low ≡ true → T (positive low) → le one (most x low) ≡ true
+most-least x low n h p = either (Ieee.ne x x)
   where
     larger : (c : Bool) → lt x low ≡ c → le one (cond c low x) ≡ true
     larger true e = h

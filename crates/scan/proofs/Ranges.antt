@@ -187,5 +187,5 @@ levels-least found trim d l =
     subst (λ (x : Float). le one x ≡ true) (sym (upto-at nan _ _ zeros d (omega arith) (lit≤ tt)))
     (elim (number-or-nan (Ieee.mul binary64 (at found d) (at trim d))) [
       | inr e ↦ rw e (unfold le ne ofBits in refl)
-      | inl n ↦ most-least (Ieee.mul binary64 (at found d) (at trim d)) _ n (unfold ofBits in tt) (unfold le ofBits in refl)
+      | inl n ↦ most-least (Ieee.mul binary64 (at found d) (at trim d)) _ n (unfold le ofBits in refl) (unfold ofBits in tt)
     ])
