@@ -1,5 +1,5 @@
 -- Values that are numbers, finite or infinite: which operations give one, how two compare, what a clamp leaves. Assumes nothing.
-use mathlib.Core.Path.{_≡_, refl, sym, ap, _∙_, subst}
+use mathlib.Core.Path.{_≡_, refl, sym, _∙_, subst}
 use mathlib.Core.Logic.{_⊎_, inl, inr}
 use mathlib.Core.Bool.{Bool, true, false, not, _&&_, _||_, Bool·beq, cond, true≢false}
 use Prim.Native.Nat.{ℕ, zero, suc, _+_, _-_, _*_, _^_, _≤_}
@@ -9,21 +9,20 @@ use lib.Dec.{T, ltb, eqb, ltb→lt}
 use lib.IntN.{ℤ}
 use lib.Ieee as Ieee
 use lib.Ieee.{Float, nan, inf, fin, binary64, low, emax, up, down, below, level, odd, round, ofBits, lt, le, unlike}
-use lib.Ieee.Fits.{round-is, down-pos}
-use lib.Ieee.Compare.{nan-differs}
+use lib.Ieee.Fits.{round-is}
 use lib.Ieee.Positive.{positive, above, above-of-le, between, le-trans-positive}
 use Rattle.ieee.proofs.Order.{passed}
-use borrow.Author.Tests.{lt-ltb, le-ltb, ltb-true, ltb-false, eq-eqb, ne-eqb}
+use borrow.Author.Tests.{lt-ltb, ltb-true, ltb-false, eq-eqb, ne-eqb}
 use Rattle.ieee.specs.Extremes.{clamped, most}
 use Rattle.flow.specs.Flow.{nothing, half, one}
 use Rattle.scan.specs.Laws.{Trim}
 
--- x is a number
+-- x is a number, and no not-a-number
 pub data Number : Float → Type 0 where
   infinite : {s : Bool} → Number (inf s)
   finite : {s : Bool} {m : ℕ} {e : ℤ} → Number (fin s m e)
 
-pub pick : (b : Bool) (x y : Float) → Number x → Number y → Number (cond b x y)
+pick : (b : Bool) (x y : Float) → Number x → Number y → Number (cond b x y)
 pick true x y a b = a
 pick false x y a b = b
 
@@ -37,7 +36,7 @@ units-number : (s : Bool) (q k : ℕ) → Number (Ieee.units binary64 s q k)
 unfolding Ieee.units
 units-number s q k = pick (ltb (q * 2 ^ k) (2 ^ (low binary64 + suc (emax binary64)))) (odd 54 s q k 1074) (inf s) (odd-number 54 s q k 1074) infinite
 
-pub round-number : (s : Bool) (a c : ℕ) → Number (round binary64 s a c)
+round-number : (s : Bool) (a c : ℕ) → Number (round binary64 s a c)
 round-number s a c = subst Number (sym (round-is binary64 s a c)) (units-number s _ _)
 
 sum-number : (s : Bool) (a : ℕ) (t : Bool) (b c : ℕ) → Number (Ieee.sum binary64 s a t b c)
@@ -99,7 +98,7 @@ not-below true true a b h = ordered a b (eqb b a) (ltb-false b a h) (λ e. eq-eq
 not-below true false a b h = let z = ltb-false 0 (a + b) h in rw (eq-eqb b a (omega arith), eq-eqb b 0 (omega arith)) refl
 not-below false true a b h = elim (decLe (b + a) 0) [ yes m ↦ rw (eq-eqb b a (omega arith), eq-eqb b 0 (omega arith)) (or-right (ltb 0 (b + a))) | no m ↦ rw (lt-ltb 0 (b + a) (omega arith)) refl ]
 
-pub not-lt : (x y : Float) → Number x → Number y → lt x y ≡ false → le y x ≡ true
+not-lt : (x y : Float) → Number x → Number y → lt x y ≡ false → le y x ≡ true
 unfolding le
 not-lt (inf s) (inf t) infinite infinite h = infinite-below s t h
 not-lt (inf true) (fin t n d) infinite finite h = absurd (true≢false h)
@@ -113,7 +112,7 @@ holds {b = true} t = refl
 holds {b = false} t = absurd t
 
 -- from a finite value above zero upward: a ≤ b ≤ x
-pub le-up : (a b x : Float) → T (positive a) → T (positive b) → le a b ≡ true → le b x ≡ true → le a x ≡ true
+le-up : (a b x : Float) → T (positive a) → T (positive b) → le a b ≡ true → le b x ≡ true → le a x ≡ true
 le-up a b x p q h k = go x (above-of-le b x q (passed k)) (passed k)
   where
     to-infinity : (a : Float) → T (positive a) → le a (inf false) ≡ true
@@ -135,6 +134,7 @@ one-positive = tt
 pub trim-positive : (x : Float) → Trim x → T (positive x)
 trim-positive x t = between half x one half-positive one-positive (passed (t .least)) (passed (t .most))
 
+-- x is finite and not zero
 pub data Finite : Float → Type 0 where
   some : {s : Bool} {m : ℕ} {e : ℤ} → (m ≡ 0 → ⊥) → Finite (fin s m e)
 
