@@ -14,7 +14,8 @@ use Rattle.sender.specs.declared.Unit as unit
 use Rattle.sender.specs.declared.Name.{Name}
 use Rattle.sender.specs.Sender as sender
 use Rattle.store.specs.Store as store
-use Rattle.store.specs.Store.{Rows, rows, Kept, kept, either, freed, moved, is-stale, retain-one, retained}
+use Rattle.store.specs.Store.{Rows, rows}
+use Rattle.retain.specs.Retain.{Kept, kept, either, freed, moved, is-stale, retain-one, retained}
 use Rattle.wants.specs.Wants.{Hist}
 use Rattle.counted.specs.Counted as counts
 use Rattle.counted.proofs.Tagged.{count-long, pruned-long}

@@ -11,8 +11,10 @@ use Rattle.flow.specs.Flow.{nothing}
 use lib.ListN.{length, getD, set, length-set, replicate}
 use lib.Seq.{getD-set-same}
 use borrow.Author.Tests.{ltb-true, ltb-false}
-use Rattle.store.specs.Store.{Rows, rows, Kept, kept, freed, moved, is-stale, in-table, table-at, stamp-at, words-at, use-at, retained, retain-one, either}
-use Rattle.store.proofs.Places.{Same, same-self, same-join, freed-other, moved-other}
+use Rattle.store.specs.Store.{Rows, rows, in-table, table-at, stamp-at, words-at, use-at}
+use Rattle.store.proofs.Places.{Same, same-self, same-join}
+use Rattle.retain.specs.Retain.{Kept, kept, freed, moved, is-stale, retained, retain-one, either}
+use Rattle.retain.proofs.Places.{freed-other, moved-other}
 use Rattle.fair.proofs.View as view
 
 unit-same : (m : Rows) (i : ℕ) (m' : Rows) (j : ℕ) → Same m i m' j → getD (m .units) i [] ≡ getD (m' .units) j []

@@ -3,13 +3,14 @@ ghost use mathlib.Core.Path.{_≡_};
 ghost use Prim.Native.Nat.{_<_, _≤_, _+_};
 ghost use lib.ListN.{length};
 ghost use Rattle.store.specs.Store as store;
+ghost use Rattle.retain.specs.Retain as retain;
 use flow::DIMS;
 
 // Of the table and older than 8,000 milliseconds. The table is asked first: it reads the tag alone.
 pub fn is_stale(tags: &[u16], units: &[[u64; 7]], i: usize, table: usize, at_ms: u64) -> bool
     requires { ⌜ i < length (now tags) ⌝ }
     requires { ⌜ i < length (now units) ⌝ }
-    ensures { λ r. ⌜ r ≡ store.is-stale (now (tags .entry)) (now (units .entry)) table «at_ms» i ⌝ }
+    ensures { λ r. ⌜ r ≡ retain.is-stale (now (tags .entry)) (now (units .entry)) table «at_ms» i ⌝ }
 {
     if store::table_at(tags, i) == table {
         8000 < flow::since(at_ms, store::stamp_at(units, i))
@@ -24,7 +25,7 @@ fn moved(tags: &mut [u16], units: &mut [[u64; 7]], uses: &mut [[f64; 2 * DIMS]],
     requires { ⌜ i < length (now units) ⌝ }
     requires { ⌜ i < length (now uses) ⌝ }
     requires { ⌜ j ≤ i ⌝ }
-    ensures { λ r. ⌜ store.rows (now (tags .exit)) (now (units .exit)) (now (uses .exit)) ≡ store.moved (store.rows (now (tags .entry)) (now (units .entry)) (now (uses .entry))) i j ⌝ }
+    ensures { λ r. ⌜ store.rows (now (tags .exit)) (now (units .exit)) (now (uses .exit)) ≡ retain.moved (store.rows (now (tags .entry)) (now (units .entry)) (now (uses .entry))) i j ⌝ }
 {
     let tag = tags[i];
     let row = units[i];
@@ -41,7 +42,7 @@ fn freed(tags: &mut [u16], units: &mut [[u64; 7]], uses: &mut [[f64; 2 * DIMS]],
     requires { ⌜ i < length (now tags) ⌝ }
     requires { ⌜ i < length (now units) ⌝ }
     requires { ⌜ i < length (now uses) ⌝ }
-    ensures { λ r. ⌜ store.rows (now (tags .exit)) (now (units .exit)) (now (uses .exit)) ≡ store.freed (store.rows (now (tags .entry)) (now (units .entry)) (now (uses .entry))) i ⌝ }
+    ensures { λ r. ⌜ store.rows (now (tags .exit)) (now (units .exit)) (now (uses .exit)) ≡ retain.freed (store.rows (now (tags .entry)) (now (units .entry)) (now (uses .entry))) i ⌝ }
 {
     tags[i] = 0;
     units[i] = [0u64; 7];
@@ -62,7 +63,7 @@ fn retain_one(
     requires { ⌜ i < length (now units) ⌝ }
     requires { ⌜ i < length (now uses) ⌝ }
     requires { ⌜ j ≤ i ⌝ }
-    ensures { λ r. ⌜ store.kept r (store.rows (now (tags .exit)) (now (units .exit)) (now (uses .exit))) ≡ store.retain-one (store.kept j (store.rows (now (tags .entry)) (now (units .entry)) (now (uses .entry)))) table «at_ms» i ⌝ }
+    ensures { λ r. ⌜ retain.kept r (store.rows (now (tags .exit)) (now (units .exit)) (now (uses .exit))) ≡ retain.retain-one (retain.kept j (store.rows (now (tags .entry)) (now (units .entry)) (now (uses .entry)))) table «at_ms» i ⌝ }
     ensures { λ r. ⌜ j ≤ r ⌝ }
     ensures { λ r. ⌜ r ≤ i + 1 ⌝ }
 {
@@ -92,8 +93,8 @@ pub fn retain(
     requires { ⌜ n ≤ length (now tags) ⌝ }
     requires { ⌜ n ≤ length (now units) ⌝ }
     requires { ⌜ n ≤ length (now uses) ⌝ }
-    requires { ⌜ store.None (store.is-stale (now tags) (now units) table «at_ms») 0 from ⌝ }
-    ensures { λ r. ⌜ store.kept r (store.rows (now (tags .exit)) (now (units .exit)) (now (uses .exit))) ≡ store.retained (store.rows (now (tags .entry)) (now (units .entry)) (now (uses .entry))) table «at_ms» n ⌝ }
+    requires { ⌜ store.None (retain.is-stale (now tags) (now units) table «at_ms») 0 from ⌝ }
+    ensures { λ r. ⌜ retain.kept r (store.rows (now (tags .exit)) (now (units .exit)) (now (uses .exit))) ≡ retain.retained (store.rows (now (tags .entry)) (now (units .entry)) (now (uses .entry))) table «at_ms» n ⌝ }
     ensures { λ r. ⌜ from ≤ r ⌝ }
     ensures { λ r. ⌜ r ≤ n ⌝ }
 {

@@ -4,8 +4,10 @@ use mathlib.Core.Bool.{Bool, true, false, cond, true≢false}
 use Prim.Native.Nat.{ℕ, _+_, _-_, _≤_}
 use native.Mathlib.Omega.{arith}
 use lib.Dec.{leb, ltb}
-use Rattle.store.specs.Store.{Rows, Kept, kept, None, is-stale, retained}
-use Rattle.store.proofs.Places.{Same, retained-before}
+use Rattle.store.specs.Store.{Rows, None}
+use Rattle.store.proofs.Places.{Same}
+use Rattle.retain.specs.Retain.{Kept, kept, is-stale, retained}
+use Rattle.retain.proofs.Places.{retained-before}
 use Rattle.scan.proofs.Turns.{walk-same}
 use Rattle.wants.specs.Wants.{Hist, cleared}
 use Rattle.head.specs.declared.Shedder.{Shedder}

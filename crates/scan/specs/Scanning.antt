@@ -2,7 +2,7 @@
 use Prim.Native.Nat.{ℕ, _+_, _-_, _^_, _%_}
 use mathlib.Core.Bool.{Bool, false, cond}
 use lib.Dec.{eqb, leb, ltb}
-use Rattle.store.specs.Store as store
+use Rattle.retain.specs.Retain.{Kept, retained}
 use Rattle.store.specs.Store.{Rows}
 use Rattle.wants.specs.Wants as wants
 use Rattle.wants.specs.Wants.{Hist}
@@ -34,14 +34,14 @@ visited h n = scan-then h (record {
 }) n ((h .visits + 1) % 2 ^ 64) (h .level)
 
 -- with the rows that were kept, and how many
-abbrev pub visit-with : Scanning → store.Kept → Scanning
+abbrev pub visit-with : Scanning → Kept → Scanning
 visit-with s k =
     scanning (visited (s .head) (k .count)) (k .rows)
     (walk (k .rows) (s .head .scan .next) (s .head .scan .«at_ms») (k .count) (walk-overflow (s .head .overflow) (s .head .scan .next) (s .head .scan .«at_ms») (s .hist)))
 
 -- a visit of the next table: overflow's want first at table 0, then the stale are dropped, then the wants of those kept
 unfoldable pub visit : Scanning → Scanning
-visit s = visit-with s (store.retained (s .rows) (s .head .scan .next) (s .head .scan .«at_ms») (s .head .tracked))
+visit s = visit-with s (retained (s .rows) (s .head .scan .next) (s .head .scan .«at_ms») (s .head .tracked))
 
 -- the second visit of a judgement, where a table remains
 unfoldable pub again : Scanning → Scanning

@@ -4,6 +4,7 @@ ghost use mathlib.Core.Bool.{true};
 ghost use Prim.Native.Nat.{_<_, _≤_, _+_};
 ghost use lib.ListN.{length};
 ghost use Rattle.store.specs.Store as store;
+ghost use Rattle.retain.specs.Retain as retain;
 ghost use Rattle.wants.specs.Wants as wants;
 ghost use Rattle.head.specs.Numbers as numbers;
 ghost use Rattle.scan.specs.Walking as walking;
@@ -83,7 +84,7 @@ fn walk_to_stale(
     requires { ⌜ n ≤ length (now units) ⌝ }
     requires { ⌜ n ≤ length (now uses) ⌝ }
     ensures { λ r. ⌜ r ≤ n ⌝ }
-    ensures { λ r. ⌜ store.None (store.is-stale (now (tags .entry)) (now (units .entry)) table «at_ms») 0 r ⌝ }
+    ensures { λ r. ⌜ store.None (retain.is-stale (now (tags .entry)) (now (units .entry)) table «at_ms») 0 r ⌝ }
     ensures { λ r. ⌜ (wants.hist (now (counts .exit)) (now (sums .exit))) ≡ walking.walk (store.rows (now (tags .entry)) (now (units .entry)) (now (uses .entry))) table «at_ms» r (wants.hist (now (counts .entry)) (now (sums .entry))) ⌝ }
 {
     let mut i = search::next_in(tags, 0, n, table);
@@ -154,7 +155,7 @@ fn swept(
     requires { ⌜ tracked ≤ length (now tags) ⌝ }
     requires { ⌜ tracked ≤ length (now units) ⌝ }
     requires { ⌜ tracked ≤ length (now uses) ⌝ }
-    ensures { λ r. ⌜ store.kept r (store.rows (now (tags .exit)) (now (units .exit)) (now (uses .exit))) ≡ store.retained (store.rows (now (tags .entry)) (now (units .entry)) (now (uses .entry))) table «at_ms» tracked ⌝ }
+    ensures { λ r. ⌜ retain.kept r (store.rows (now (tags .exit)) (now (units .exit)) (now (uses .exit))) ≡ retain.retained (store.rows (now (tags .entry)) (now (units .entry)) (now (uses .entry))) table «at_ms» tracked ⌝ }
     ensures { λ r. ⌜ (wants.hist (now (counts .exit)) (now (sums .exit))) ≡ walking.walk (store.rows (now (tags .exit)) (now (units .exit)) (now (uses .exit))) table «at_ms» r (walking.walk-overflow overflow table «at_ms» (wants.hist (now (counts .entry)) (now (sums .entry)))) ⌝ }
     ensures { λ r. ⌜ r ≤ tracked ⌝ }
 {

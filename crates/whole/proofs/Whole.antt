@@ -6,7 +6,8 @@ use Prim.Native.Nat.{ℕ, zero, suc, _+_, _-_, _≤_, _<_}
 use native.Mathlib.Omega.{arith}
 use lib.Dec.{eqb, leb, ltb}
 use borrow.Author.Tests.{eqb-true, eq-eqb, leb-true}
-use Rattle.store.specs.Store.{Rows, Kept, kept, either, is-stale, freed, moved, retain-one, retained}
+use Rattle.store.specs.Store.{Rows}
+use Rattle.retain.specs.Retain.{Kept, kept, either, is-stale, freed, moved, retain-one, retained}
 use Rattle.wants.specs.Wants.{Hist}
 use Rattle.wants.specs.Wants as wants
 use Rattle.head.specs.declared.Shedder.{Shedder}

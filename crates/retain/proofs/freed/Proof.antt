@@ -1,7 +1,7 @@
 -- `retain::freed` meets its contract. Assumes nothing.
 use borrow.Author.Needs.{needs}
 use mathlib.Core.Path.{refl}
-use Rattle.store.specs.Store.{freed}
+use Rattle.retain.specs.Retain.{freed}
 use Rattle.retain.proofs.freed.Statement.{statement}
 use Rattle.retain.proofs.freed.Tie as tie
 

@@ -2,7 +2,8 @@
 use borrow.Author.Needs.{needs}
 use borrow.Author.Tests.{eq-eqb, ne-eqb}
 use mathlib.Core.Path.{sym}
-use Rattle.store.specs.Store.{is-stale, in-table}
+use Rattle.store.specs.Store.{in-table}
+use Rattle.retain.specs.Retain.{is-stale}
 use Rattle.retain.proofs.is_stale.Statement.{statement}
 use Rattle.retain.proofs.is_stale.Tie as tie
 

@@ -3,7 +3,7 @@ use borrow.Author.Needs.{needs}
 use lib.ListN.{length-set}
 use mathlib.Core.Path.{refl}
 use native.Mathlib.Omega.{arith}
-use Rattle.store.specs.Store.{moved}
+use Rattle.retain.specs.Retain.{moved}
 use Rattle.retain.proofs.moved.Statement.{statement}
 use Rattle.retain.proofs.moved.Tie as tie
 

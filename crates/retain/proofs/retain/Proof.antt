@@ -4,8 +4,9 @@ use borrow.Author.Needs.{needs}
 use lib.ListN.{length}
 use mathlib.Core.Path.{_≡_, refl, sym, ap, _∙_}
 use native.Mathlib.Omega.{arith}
-use Rattle.store.specs.Store.{rows, Kept, kept, retain-one, retained}
-use Rattle.store.proofs.Steps.{retained-still, retained-next}
+use Rattle.store.specs.Store.{rows}
+use Rattle.retain.specs.Retain.{Kept, kept, retain-one, retained}
+use Rattle.retain.proofs.Steps.{retained-still, retained-next}
 use Rattle.retain.proofs.retain.Statement.{statement}
 use Rattle.retain.proofs.retain.Tie as tie
 

@@ -2,7 +2,7 @@
 use borrow.Author.Needs.{needs}
 use borrow.Author.Tests.{lt-ltb, le-ltb}
 use mathlib.Core.Path.{sym, ap}
-use Rattle.store.specs.Store.{retain-one, kept}
+use Rattle.retain.specs.Retain.{retain-one, kept}
 use Rattle.retain.proofs.retain_one.Statement.{statement}
 use Rattle.retain.proofs.retain_one.Tie as tie
 
