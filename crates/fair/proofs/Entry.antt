@@ -26,7 +26,8 @@ use Rattle.fair.specs.Calls as calls
 use Rattle.fair.proofs.View as view
 use Rattle.fair.proofs.View.{Name, same, shares, named, name-of}
 use Rattle.fair.proofs.Sweep as pass
-use Rattle.fair.proofs.Sweep.{Wide, Long}
+use Rattle.fair.proofs.Sweep.{Wide}
+use Rattle.retain.proofs.Places.{Long, long-join}
 use Rattle.fair.proofs.Back as back
 use Rattle.fair.proofs.Back.{Whole, part-length}
 use Rattle.fair.proofs.Find as finding
@@ -65,9 +66,6 @@ added-wide m n w x hu wide j h = elim (ℕ-discrete j n) [
   | yes q ↦ ap (λ (k : ℕ). length (getD (set (m .units) n (w .words .kind ∷ w .words .a ∷ w .words .b ∷ w .words .c ∷ w .words .d ∷ x .«at_ms» ∷ x .fresh ∷ [])) k [])) q ∙ ap (λ (r : List ℕ). length r) (getD-set-same (m .units) n _ [] hu)
   | no q ↦ ap (λ (r : List ℕ). length r) (getD-set-other (m .units) n j _ [] q) ∙ wide j (omega arith)
 ]
-
-long-join : {x y z : Rows} → Long x y → Long y z → Long x z
-long-join p q = record { tags = p .tags ∙ q .tags; units = p .units ∙ q .units; uses = p .uses ∙ q .uses }
 
 long-self : (x : Rows) → Long x x
 long-self x = record { tags = refl; units = refl; uses = refl }

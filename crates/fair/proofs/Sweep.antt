@@ -7,14 +7,12 @@ use native.Mathlib.Decide.{ℕ-discrete}
 use mathlib.Core.Bool.{Bool, true, false}
 use mathlib.Core.List.{List, [], _∷_, _++_}
 use lib.Dec.{ltb}
-use Rattle.flow.specs.Flow.{nothing}
-use lib.ListN.{length, getD, set, length-set, replicate}
-use lib.Seq.{getD-set-same}
+use lib.ListN.{length, getD}
 use borrow.Author.Tests.{ltb-true, ltb-false}
 use Rattle.store.specs.Store.{Rows, rows, in-table, table-at, stamp-at, words-at, use-at}
 use Rattle.store.proofs.Places.{Same, same-self, same-join}
 use Rattle.retain.specs.Retain.{Kept, kept, freed, moved, is-stale, retained, retain-one, either}
-use Rattle.retain.proofs.Places.{freed-other, moved-other}
+use Rattle.retain.proofs.Places.{Long, long-join, Reaches, freed-long, moved-long, moved-there, freed-other, moved-other}
 use Rattle.fair.proofs.View as view
 
 unit-same : (m : Rows) (i : ℕ) (m' : Rows) (j : ℕ) → Same m i m' j → getD (m .units) i [] ≡ getD (m' .units) j []
@@ -24,33 +22,6 @@ unit-same m i m' j s = s .1
 -- the first n rows of words are each so many words wide
 unfoldable pub Wide : ℕ → Rows → ℕ → Type 0
 Wide w m n = (j : ℕ) → j < n → length (getD (m .units) j []) ≡ w
-
--- as long as another memory
-pub record Long (m m' : Rows) : Type 0 where
-  pub tags : length (m .tags) ≡ length (m' .tags)
-  pub units : length (m .units) ≡ length (m' .units)
-  pub uses : length (m .uses) ≡ length (m' .uses)
-
-module _ (m : Rows) (i : ℕ) where
-  freed-long : Long (freed m i) m
-  unfolding freed
-  freed-long = record { tags = simp length-set; units = simp length-set; uses = simp length-set }
-
-  module _ (k : ℕ) where
-    moved-long : Long (moved m i k) m
-    unfolding moved
-    moved-long = record { tags = simp length-set; units = simp length-set; uses = simp length-set }
-
-    moved-there : k < length (m .tags) → k < length (m .units) → k < length (m .uses) → Same (moved m i k) k m i
-    unfolding Same moved
-    moved-there a b c =
-        let x : k < length (set (m .tags) i 0) = simp length-set a in
-        let y : k < length (set (m .units) i (replicate 7 0)) = simp length-set b in
-        let z : k < length (set (m .uses) i (replicate 4 nothing)) = simp length-set c in
-        (rw getD-set-same, rw getD-set-same, rw getD-set-same)
-
-go : {x y z : Rows} → Long x y → Long y z → Long x z
-go p q = record { tags = p .tags ∙ q .tags; units = p .units ∙ q .units; uses = p .uses ∙ q .uses }
 
 module _ (room : ℕ) where
   abbrev R′ : Type 0
@@ -127,28 +98,31 @@ module _ (room : ℕ) where
       step-freed e = record {
         wide = λ v f j h. ap (λ (l : List ℕ). length l) (unit-same (freed (k .rows) n) j (k .rows) j (freed-other (k .rows) n j (λ q. absurd (omega (arith, w .few))))) ∙ w .wide v (λ i l. f i (omega arith)) j h;
         few = omega (arith, w .few);
-        long = go (freed-long (k .rows) n) (w .long);
+        long = long-join (freed-long (k .rows) n) (w .long);
         beyond = λ j h. same-join (freed (k .rows) n) (k .rows) m j (freed-other (k .rows) n j (λ q. absurd (omega arith))) (w .beyond j (omega arith));
         list = listed-same (freed (k .rows) n) (k .rows) (k .count) (λ j h. record-same (freed (k .rows) n) j (k .rows) j (freed-other (k .rows) n j (λ q. absurd (omega (arith, w .few))))) ∙ sym (more true e);
       }
+
+      end : k .count < n → Reaches (k .rows) (k .count)
+      end l = record { tags = omega (arith, w .long .tags); units = omega (arith, w .long .units); uses = omega (arith, w .long .uses) }
 
       step-moved : stale t a (record-at m n) ≡ false → k .count < n → Passed (n + 1) (kept (k .count + 1) (moved (k .rows) n (k .count)))
       unfolding Wide
       step-moved e l = record {
         wide = λ v f j h. elim (ℕ-discrete j (k .count)) [
           | yes q ↦ ap (λ (i : ℕ). length (getD (moved (k .rows) n (k .count) .units) i [])) q
-              ∙ ap (λ (l : List ℕ). length l) (unit-same (moved (k .rows) n (k .count)) (k .count) (k .rows) n (moved-there (k .rows) n (k .count) (omega (arith, w .long .tags)) (omega (arith, w .long .units)) (omega (arith, w .long .uses))))
+              ∙ ap (λ (l : List ℕ). length l) (unit-same (moved (k .rows) n (k .count)) (k .count) (k .rows) n (moved-there (k .rows) n (k .count) (end l)))
               ∙ ap (λ (l : List ℕ). length l) (unit-same (k .rows) n m n (w .beyond n (omega arith))) ∙ f n (omega arith)
           | no q ↦ ap (λ (l : List ℕ). length l) (unit-same (moved (k .rows) n (k .count)) j (k .rows) j (moved-other (k .rows) n (k .count) j (λ x. absurd (omega arith)) q)) ∙ w .wide v (λ i l. f i (omega arith)) j (omega arith)
         ];
         few = omega (arith, w .few);
-        long = go (moved-long (k .rows) n (k .count)) (w .long);
+        long = long-join (moved-long (k .rows) n (k .count)) (w .long);
         beyond = λ j h. same-join (moved (k .rows) n (k .count)) (k .rows) m j (moved-other (k .rows) n (k .count) j (λ q. absurd (omega arith)) (λ q. absurd (omega arith))) (w .beyond j (omega arith));
         list = listed-next (moved (k .rows) n (k .count)) (k .count)
             ∙ ap (λ (x : List R′). x ++ (record-at (moved (k .rows) n (k .count)) (k .count) ∷ []))
             (listed-same (moved (k .rows) n (k .count)) (k .rows) (k .count) (λ j h. record-same (moved (k .rows) n (k .count)) j (k .rows) j (moved-other (k .rows) n (k .count) j (λ q. absurd (omega arith)) (λ q. absurd (omega arith)))))
             ∙ ap (λ (r : R′). listed (k .rows) (k .count) ++ (r ∷ []))
-            (record-same (moved (k .rows) n (k .count)) (k .count) (k .rows) n (moved-there (k .rows) n (k .count) (omega (arith, w .long .tags)) (omega (arith, w .long .units)) (omega (arith, w .long .uses)))
+            (record-same (moved (k .rows) n (k .count)) (k .count) (k .rows) n (moved-there (k .rows) n (k .count) (end l))
             ∙ record-same (k .rows) n m n (w .beyond n (omega arith)))
             ∙ sym (more false e);
       }

@@ -13,7 +13,7 @@ use borrow.Author.Tests.{lt-ltb, le-ltb, ltb-true, ltb-false}
 use Rattle.sender.specs.Sender.{table-of-tag}
 use Rattle.store.specs.Store.{Rows, stamp-at, in-table, table-at}
 use Rattle.store.proofs.Places.{Same, same-self, same-join}
-use Rattle.retain.specs.Retain.{Kept, kept, either, freed, moved, is-stale, retain-one, retained}
+use Rattle.retain.specs.Retain.{Kept, kept, either, freed, moved, is-old, is-stale, retain-one, retained}
 use Rattle.retain.specs.Laws.{Record, record-at, records, zero-bits, stale, choose, without, Drops, Retains}
 use Rattle.retain.proofs.Places.{freed-other, moved-other, Long, long-join, Reaches, freed-long, moved-long, moved-there}
 
@@ -22,10 +22,10 @@ record-same : (m : Rows) (i : ℕ) (m' : Rows) (j : ℕ) → Same m i m' j → r
 unfolding Same record-at
 record-same m i m' j s = simp (s .0, s .1, s .2)
 
-later : (at scan : ℕ) → ltb 8000 (scan - at) ≡ ltb (at + 8000) scan
+later : (at scan : ℕ) → is-old scan at ≡ ltb (at + 8000) scan
 later at scan = elim (decLt (at + 8000) scan) [
-  | yes h ↦ lt-ltb 8000 (scan - at) (omega arith) ∙ sym (lt-ltb (at + 8000) scan h)
-  | no h ↦ le-ltb 8000 (scan - at) (omega arith) ∙ sym (le-ltb (at + 8000) scan (omega arith))
+  | yes h ↦ lt-ltb _ (scan - at) (omega arith) ∙ sym (lt-ltb (at + 8000) scan h)
+  | no h ↦ le-ltb _ (scan - at) (omega arith) ∙ sym (le-ltb (at + 8000) scan (omega arith))
 ]
 
 stale-at : (m : Rows) (t a i : ℕ) → is-stale (m .tags) (m .units) t a i ≡ stale t a (record-at m i)

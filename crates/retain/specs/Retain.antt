@@ -7,12 +7,13 @@ use lib.ListN.{getD, set, replicate}
 use Rattle.flow.specs.Flow.{nothing}
 use Rattle.store.specs.Store.{Rows, dims, unit-row, stamp-at, in-table}
 
-abbrev pub since : ℕ → ℕ → ℕ
-since now at = now - at
+-- more than 8,000 milliseconds before
+abbrev pub is-old : ℕ → ℕ → Bool
+is-old now at = ltb 8000 (now - at)
 
--- of the table, and more than 8,000 milliseconds old
+-- of the table, and old
 unfoldable pub is-stale : List ℕ → List (List ℕ) → ℕ → ℕ → ℕ → Bool
-is-stale tags units table now i = cond (in-table tags table i) (ltb 8000 (since now (stamp-at units i))) false
+is-stale tags units table now i = cond (in-table tags table i) (is-old now (stamp-at units i)) false
 
 -- a freed place is zero bits
 unfoldable pub freed : Rows → ℕ → Rows

@@ -38,15 +38,16 @@ fn moved(tags: &mut [u16], units: &mut [[u64; 7]], uses: &mut [[f64; 2 * DIMS]],
     uses[j] = held;
 }
 
-fn freed(tags: &mut [u16], units: &mut [[u64; 7]], uses: &mut [[f64; 2 * DIMS]], i: usize)
-    requires { ⌜ i < length (now tags) ⌝ }
-    requires { ⌜ i < length (now units) ⌝ }
-    requires { ⌜ i < length (now uses) ⌝ }
-    ensures { λ r. ⌜ store.rows (now (tags .exit)) (now (units .exit)) (now (uses .exit)) ≡ retain.freed (store.rows (now (tags .entry)) (now (units .entry)) (now (uses .entry))) i ⌝ }
+// A place becomes zero bits.
+fn freed(tags: &mut [u16], units: &mut [[u64; 7]], uses: &mut [[f64; 2 * DIMS]], place: usize)
+    requires { ⌜ place < length (now tags) ⌝ }
+    requires { ⌜ place < length (now units) ⌝ }
+    requires { ⌜ place < length (now uses) ⌝ }
+    ensures { λ r. ⌜ store.rows (now (tags .exit)) (now (units .exit)) (now (uses .exit)) ≡ retain.freed (store.rows (now (tags .entry)) (now (units .entry)) (now (uses .entry))) place ⌝ }
 {
-    tags[i] = 0;
-    units[i] = [0u64; 7];
-    uses[i] = [0.0; 2 * DIMS];
+    tags[place] = 0;
+    units[place] = [0u64; 7];
+    uses[place] = [0.0; 2 * DIMS];
 }
 
 // The record at i: freed where it is stale, else moved to j, the end of those kept.
