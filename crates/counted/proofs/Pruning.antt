@@ -19,7 +19,7 @@ map-end : (l : List (List ℕ)) (r : List ℕ) → map total (l ++ (r ∷ [])) �
 map-end [] r = refl
 map-end (x ∷ xs) r = ap (λ (t : List ℕ). total x ∷ t) (map-end xs r)
 
-totals-next : (rows : List (List ℕ)) (n : ℕ) → n < length rows → totals rows (n + 1) ≡ totals rows n ++ (total-at rows n ∷ [])
+pub totals-next : (rows : List (List ℕ)) (n : ℕ) → n < length rows → totals rows (n + 1) ≡ totals rows n ++ (total-at rows n ∷ [])
 unfolding totals total-at
 totals-next rows n h = ap (λ (m : ℕ). map total (take m rows)) (add-one n) ∙ ap (map total) (take-suc rows n [] h) ∙ map-end (take n rows) (getD rows n [])
 

@@ -125,6 +125,17 @@ unfolding below highest
 all-below [] x h = refl
 all-below (y ∷ ys) x h = rw (lt-ltb y x (omega arith), all-below ys x (omega arith)) (omega arith)
 
+-- ---- in index form: no entry is above a later one
+entries : (l : List ℕ) → Ascending l → (i j : ℕ) → i ≤ j → j < length l → getD l i 0 ≤ getD l j 0
+entries [] a i j h g = absurd (omega arith)
+entries (y ∷ ys) (more f r) zero zero h g = omega arith
+entries (y ∷ ys) (more f r) zero (suc j) h g = from-at y ys j f (omega arith)
+entries (y ∷ ys) (more f r) (suc i) zero h g = absurd (omega arith)
+entries (y ∷ ys) (more f r) (suc i) (suc j) h g = entries ys r i j (omega arith) (omega arith)
+
+pub sorted-entries : (l : List ℕ) (i j : ℕ) → i ≤ j → j < length l → getD (sorted l) i 0 ≤ getD (sorted l) j 0
+sorted-entries l i j h g = entries (sorted l) (ascending-sorted l) i j h (omega (arith, length-sorted l))
+
 -- ---- the entry at a quarter
 module _ (l : List ℕ) (h : 0 < length l) where
   quarter : length l / 4 < length l
