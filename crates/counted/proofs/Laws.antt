@@ -2,14 +2,15 @@
 use mathlib.Core.Path.{_≡_, refl, sym, ap, subst, _∙_}
 use mathlib.Core.Bool.{Bool, true, false}
 use mathlib.Core.List.{List, [], _∷_, _++_, map}
-use Prim.Native.Nat.{ℕ, zero, suc, _+_, _≤_, _<_}
+use Prim.Native.Nat.{ℕ, zero, suc, _+_, _%_, _^_, _≤_, _<_}
 use native.Mathlib.Numerals.{add-one}
 use native.Mathlib.Omega.{arith}
 use native.Mathlib.Decide.{ℕ-discrete, decLt}
 use lib.Dec.{eqb, ltb}
 use lib.ListN.{length, getD, set, length-set, length-append}
-use lib.Seq.{lt-length-set, getD-set-same, getD-set-other}
+use lib.Seq.{getD-set-same, getD-set-other}
 use borrow.Author.Tests.{lt-ltb, le-ltb, eq-eqb, ne-eqb}
+use Rattle.store.proofs.Places.{put-there}
 use Rattle.counted.specs.Sorted.{one-if, sorted, below}
 use Rattle.counted.specs.Counted.{Sources, sources, choose, either, counted-row, total, total-at, totals, keep-from, free, prune, prune-one, pruned, tag-moved, prune-tags, pruned-tags}
 use Rattle.counted.specs.Laws.{times, Sorts, at-quarter, Source, source-at, listed, zero-bits, sum, keep, above, Leaves, Prunes}
@@ -46,7 +47,7 @@ source-same tags tags' rows rows' i j e f = simp (e, f)
 
 sum-at : (tags : List ℕ) (rows : List (List ℕ)) (i : ℕ) → sum (source-at tags rows i) ≡ total-at rows i
 unfolding sum source-at total-at total
-sum-at tags rows i = refl
+sum-at tags rows i = ap (λ (x : ℕ). x % 2 ^ 64) (omega arith)
 
 -- ---- the sources at the first places
 listed-same : (tags tags' : List ℕ) (rows rows' : List (List ℕ)) (n : ℕ) → ((j : ℕ) → j < n → source-at tags rows j ≡ source-at tags' rows' j) → listed tags rows n ≡ listed tags' rows' n
@@ -82,7 +83,7 @@ sums tags rows (suc n) h =
 
 quarter : (l : List ℕ) → keep-from l ≡ at-quarter l
 unfolding keep-from at-quarter
-quarter l = refl
+quarter l = ap (λ (i : ℕ). getD (sorted l) i 0) (omega arith)
 
 -- ---- those left of one source more
 abbrev select : Bool → List Source → List Source → List Source
@@ -105,9 +106,6 @@ above-end k [] s = go (ltb k (sum s))
 above-end k (x ∷ xs) s = ap (keep (ltb k (sum x)) x) (above-end k xs s) ∙ keep-last (ltb k (sum x)) (ltb k (sum s)) x s (above k xs)
 
 -- ---- a source freed, and one moved
-put-there : {A : Type 0} (l : List A) (i k : ℕ) (x y d : A) → k < length l → getD (set (set l i x) k y) k d ≡ y
-put-there l i k x y d h = getD-set-same (set l i x) k y d (lt-length-set l i x h)
-
 module _ (tags : List ℕ) (rows : List (List ℕ)) (n : ℕ) (ht : n < length tags) (hr : n < length rows) where
   freed-other : (j : ℕ) → (j ≡ n → ⊥) → source-at (set tags n 0) (set rows n free) j ≡ source-at tags rows j
   freed-other j h = source-same (set tags n 0) tags (set rows n free) rows j j (rw getD-set-other) (rw getD-set-other)

@@ -138,20 +138,23 @@ sorted-entries l i j h g = entries (sorted l) (ascending-sorted l) i j h (omega 
 
 -- ---- the entry at a quarter
 module _ (l : List ℕ) (h : 0 < length l) where
-  quarter : length l / 4 < length l
+  abbrev index : ℕ
+  index = length l / 4
+
+  quarter : index < length l
   quarter = omega arith
 
-  pub keep-from-least : (x : ℕ) → below x l ≤ length l / 4 → x ≤ keep-from l
+  pub keep-from-least : (x : ℕ) → below x l ≤ index → x ≤ keep-from l
   unfolding keep-from
-  keep-from-least x b = elim (decLt (getD (sorted l) (length l / 4) 0) x) [
-    | yes g ↦ absurd (omega (arith, entry-below l (length l / 4) x quarter g))
+  keep-from-least x b = elim (decLt (getD (sorted l) index 0) x) [
+    | yes g ↦ absurd (omega (arith, entry-below l index x quarter g))
     | no g ↦ omega arith
   ]
 
-  pub keep-from-most : (x : ℕ) → length l / 4 < below x l → keep-from l < x
+  pub keep-from-most : (x : ℕ) → index < below x l → keep-from l < x
   unfolding keep-from
-  keep-from-most x b = elim (decLe x (getD (sorted l) (length l / 4) 0)) [
-    | yes g ↦ absurd (omega (arith, entry-above l (length l / 4) x quarter g))
+  keep-from-most x b = elim (decLe x (getD (sorted l) index 0)) [
+    | yes g ↦ absurd (omega (arith, entry-above l index x quarter g))
     | no g ↦ omega arith
   ]
 
@@ -161,7 +164,7 @@ module _ (l : List ℕ) (h : 0 < length l) where
   -- one of the numbers is not above it
   pub keep-from-there : 0 < below (keep-from l + 1) l
   unfolding keep-from
-  keep-from-there = omega (arith, entry-below l (length l / 4) (getD (sorted l) (length l / 4) 0 + 1) quarter (omega arith))
+  keep-from-there = omega (arith, entry-below l index (getD (sorted l) index 0 + 1) quarter (omega arith))
 
 -- of none it is 0
 pub keep-from-none : (l : List ℕ) → length l ≡ 0 → keep-from l ≡ 0

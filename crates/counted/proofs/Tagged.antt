@@ -48,8 +48,7 @@ count-long tags rows n name = either-long (ltb (counted-find tags rows name n) n
 
 moved-long : (tags : List ℕ) (total k i j : ℕ) → length (tag-moved tags total k i j) ≡ length tags
 unfolding tag-moved
-moved-long tags total k i j =
-    either-long (ltb k total) (set (set tags i 0) j (getD tags i 0)) (set tags i 0) (length tags) (length-set (set tags i 0) j (getD tags i 0) ∙ length-set tags i 0) (length-set tags i 0)
+moved-long tags total k i j = either-long (ltb k total) _ _ (length tags) (simp length-set) (simp length-set)
 
 prune-long : (tags : List ℕ) (rows : List (List ℕ)) (k n : ℕ) → length (prune-tags tags rows k n) ≡ length tags
 unfolding prune-tags

@@ -22,7 +22,7 @@ record-same : (m : Rows) (i : ℕ) (m' : Rows) (j : ℕ) → Same m i m' j → r
 unfolding Same record-at
 record-same m i m' j s = simp (s .0, s .1, s .2)
 
-later : (at scan : ℕ) → is-old scan at ≡ ltb (at + 8000) scan
+pub later : (at scan : ℕ) → is-old scan at ≡ ltb (at + 8000) scan
 later at scan = elim (decLt (at + 8000) scan) [
   | yes h ↦ lt-ltb _ (scan - at) (omega arith) ∙ sym (lt-ltb (at + 8000) scan h)
   | no h ↦ le-ltb _ (scan - at) (omega arith) ∙ sym (le-ltb (at + 8000) scan (omega arith))
@@ -181,6 +181,7 @@ module _ (m : Rows) (t a : ℕ) where
 
   dropped : (n : ℕ) (k : Kept) → Passed n k → Drops m t a n k
   dropped n k w = record {
+    few = w .few;
     stay = w .list;
     counted = sym (records-long (k .rows) (k .count)) ∙ ap (λ (l : List Record). length l) (w .list);
     zeroed = w .zeroed;

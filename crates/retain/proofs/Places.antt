@@ -5,12 +5,12 @@ use native.Mathlib.Numerals.{add-one}
 use native.Mathlib.Omega.{arith}
 use native.Mathlib.Nat.{add-sub-of-le, add-zero, add-suc}
 use mathlib.Core.Bool.{Bool, true, false}
-use mathlib.Core.List.{List, []}
+use mathlib.Core.List.{[]}
 use lib.Dec.{ltb}
-use lib.ListN.{length, getD, set, length-set}
-use lib.Seq.{lt-length-set, getD-set-same, getD-set-other}
+use lib.ListN.{length, getD, length-set}
+use lib.Seq.{getD-set-other}
 use Rattle.store.specs.Store.{Rows, None}
-use Rattle.store.proofs.Places.{Same, same-self, same-join}
+use Rattle.store.proofs.Places.{put-there, Same, same-self, same-join}
 use Rattle.retain.specs.Retain.{Kept, kept, either, freed, moved, is-stale, retain-one, retained}
 use Rattle.retain.proofs.Steps.{retained-still, retained-next}
 
@@ -36,9 +36,6 @@ pub record Reaches (m : Rows) (i : ℕ) : Type 0 where
   pub tags : i < length (m .tags)
   pub units : i < length (m .units)
   pub uses : i < length (m .uses)
-
-put-there : {A : Type 0} (l : List A) (i k : ℕ) (x y d : A) → k < length l → getD (set (set l i x) k y) k d ≡ y
-put-there l i k x y d h = getD-set-same (set l i x) k y d (lt-length-set l i x h)
 
 module _ (m : Rows) (i : ℕ) where
   pub freed-long : Long (freed m i) m

@@ -46,6 +46,7 @@ pub record Drops (m : Rows) (table scan n : ℕ) (k : Kept) : Type 0 where
   -- in front stand exactly those that are not stale, in their order, and so many are counted
   pub stay : records (k .rows) (k .count) ≡ without (stale table scan) (records m n)
   pub counted : k .count ≡ length (without (stale table scan) (records m n))
+  pub few : k .count ≤ n
   -- zero bits up to the n-th place, and from there on all is as it was
   pub zeroed : (j : ℕ) → k .count ≤ j → j < n → record-at (k .rows) j ≡ zero-bits
   pub behind : (j : ℕ) → n ≤ j → record-at (k .rows) j ≡ record-at m j

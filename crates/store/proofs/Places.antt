@@ -1,9 +1,14 @@
 -- What stands at a place of the lent lists. Assumes nothing.
 use mathlib.Core.Path.{_≡_, refl, _∙_}
-use Prim.Native.Nat.{ℕ}
-use mathlib.Core.List.{[]}
-use lib.ListN.{getD}
+use Prim.Native.Nat.{ℕ, _<_}
+use mathlib.Core.List.{List, []}
+use lib.ListN.{length, getD, set}
+use lib.Seq.{lt-length-set, getD-set-same}
 use Rattle.store.specs.Store.{Rows}
+
+-- what was put last at k stands there
+pub put-there : {A : Type 0} (l : List A) (i k : ℕ) (x y d : A) → k < length l → getD (set (set l i x) k y) k d ≡ y
+put-there l i k x y d h = getD-set-same (set l i x) k y d (lt-length-set l i x h)
 
 -- place i of one memory holds what place j of another does
 unfoldable pub Same : Rows → ℕ → Rows → ℕ → Type 0
