@@ -1,15 +1,8 @@
-// A list of calls, given as rows of words, run through the real calls: what it leaves is the run of the list.
+// A list of calls, given as rows of words, run through the real calls, and the totals of a run in it: demand 3's claims hold of them.
 ghost use mathlib.Core.Path.{_≡_};
-ghost use lib.ListN.{length};
-ghost use lib.Dec.{eqb};
-ghost use mathlib.Core.Bool.{cond};
-ghost use Prim.Native.Nat.{_+_, _^_, _%_};
-ghost use Rattle.store.specs.Store as store;
-ghost use Rattle.wants.specs.Wants as wants;
-ghost use Rattle.shed.specs.Judging as judging;
-ghost use Rattle.fair.specs.Calls as calls;
+ghost use Prim.Native.Nat.{min};
 ghost use Rattle.turns.specs.Replay as replay;
-ghost use Rattle.replay.specs.Bounds as bounds;
+ghost use Rattle.replay.specs.Runs as runs;
 use flow::DIMS;
 use head::Shedder;
 use sender::Unit;
@@ -28,29 +21,37 @@ fn sums(xs: [u64; DIMS], ys: [u64; DIMS]) -> [u64; DIMS]
     out
 }
 
-// What a list left, and the totals over its calls that were not refused by number, modulo 2^64.
+// What a list left, and the totals over the calls of the run, modulo 2^64.
 pub struct Replayed {
     pub head: Shedder,
     pub admitted: [u64; DIMS],
-    // of that, on the watched unit's own record
+    // of that, on the watched record
     pub admitted_on: [u64; DIMS],
     pub handed: [u64; DIMS],
     pub taken: u64,
+    // whether the last call of the run is a judgement answered over share
+    pub over_share: bool,
 }
 
-// A call more: refused by number, it adds nothing.
-fn after(run: Replayed, t: Turned) -> Replayed
-    ensures { λ r. ⌜ r .head ≡ t .head ⌝ }
-    ensures { λ r. ⌜ r .admitted ≡ cond (eqb (t .number) 0) (replay.sums (run .admitted) (t .admitted)) (run .admitted) ⌝ }
-    ensures { λ r. ⌜ r .handed ≡ cond (eqb (t .number) 0) (replay.sums (run .handed) (t .handed)) (run .handed) ⌝ }
-    ensures { λ r. ⌜ r .taken ≡ cond (eqb (t .number) 0) ((run .taken + 1) % 2 ^ 64) (run .taken) ⌝ }
-    ensures { λ r. ⌜ r .«admitted_on» ≡ cond (eqb (t .number) 0) (replay.sums (run .«admitted_on») (t .«admitted_on»)) (run .«admitted_on») ⌝ }
+// Whether a call is one of the run: its row is, and it was not refused by number.
+fn counts(inside: bool, number: u64) -> bool
+    ensures { λ r. ⌜ r ≡ replay.counts inside number ⌝ }
+{
+    if inside {
+        return number == 0;
+    }
+    false
+}
+
+// A call more.
+fn after(run: Replayed, t: Turned, inside: bool) -> Replayed
+    ensures { λ r. ⌜ runs.Adds inside run t r ⌝ }
 {
     let head = t.head;
     let admitted = run.admitted;
     let admitted_on = run.admitted_on;
     let handed = run.handed;
-    if t.number == 0 {
+    if counts(inside, t.number) {
         let more = t.admitted;
         let more_on = t.admitted_on;
         let back = t.handed;
@@ -64,6 +65,7 @@ fn after(run: Replayed, t: Turned) -> Replayed
             admitted_on: admits_on,
             handed: hands,
             taken,
+            over_share: t.over_share,
         };
     }
     Replayed {
@@ -72,10 +74,21 @@ fn after(run: Replayed, t: Turned) -> Replayed
         admitted_on,
         handed,
         taken: run.taken,
+        over_share: run.over_share,
     }
 }
 
-// All rows, in order; out is the buffer of the reports.
+fn least(a: usize, b: usize) -> usize
+    ensures { λ r. ⌜ r ≡ min a b ⌝ }
+{
+    if a < b {
+        return a;
+    }
+    b
+}
+
+// The rows before row `to`, in order, all where there are fewer; those from row `from` on are the run. `watched` names the
+// record that is watched, by its unit: overflow's by the unit overflow. out is the buffer of the reports.
 pub fn replay(
     head: Shedder,
     tags: &mut [u16],
@@ -86,16 +99,15 @@ pub fn replay(
     counted: &mut [[u64; 8]],
     watched: Unit,
     list: &[[u64; 7 + DIMS]],
+    from: usize,
+    to: usize,
     out: &mut [u8],
 ) -> Replayed
-    ensures { λ r. ⌜ calls.state-of (r .head) (judging.memory (store.rows (now (tags .exit)) (now (units .exit)) (now (uses .exit))) (wants.hist (now (counts .exit)) (now (sums .exit))) (now (counted .exit))) ≡ calls.state (calls.state-of head (judging.memory (store.rows (now (tags .entry)) (now (units .entry)) (now (uses .entry))) (wants.hist (now (counts .entry)) (now (sums .entry))) (now (counted .entry)))) (replay.calls-in (calls.state-of head (judging.memory (store.rows (now (tags .entry)) (now (units .entry)) (now (uses .entry))) (wants.hist (now (counts .entry)) (now (sums .entry))) (now (counted .entry)))) (now (out .entry)) (now (list .entry))) ⌝ }
-    ensures { λ r. ⌜ now (out .exit) ≡ replay.page-in (calls.state-of head (judging.memory (store.rows (now (tags .entry)) (now (units .entry)) (now (uses .entry))) (wants.hist (now (counts .entry)) (now (sums .entry))) (now (counted .entry)))) (now (out .entry)) (now (list .entry)) ⌝ }
-    ensures { λ r. ⌜ r .admitted ≡ replay.totals calls.admitted (calls.state-of head (judging.memory (store.rows (now (tags .entry)) (now (units .entry)) (now (uses .entry))) (wants.hist (now (counts .entry)) (now (sums .entry))) (now (counted .entry)))) (replay.calls-in (calls.state-of head (judging.memory (store.rows (now (tags .entry)) (now (units .entry)) (now (uses .entry))) (wants.hist (now (counts .entry)) (now (sums .entry))) (now (counted .entry)))) (now (out .entry)) (now (list .entry))) ⌝ }
-    ensures { λ r. ⌜ r .handed ≡ replay.totals calls.handed (calls.state-of head (judging.memory (store.rows (now (tags .entry)) (now (units .entry)) (now (uses .entry))) (wants.hist (now (counts .entry)) (now (sums .entry))) (now (counted .entry)))) (replay.calls-in (calls.state-of head (judging.memory (store.rows (now (tags .entry)) (now (units .entry)) (now (uses .entry))) (wants.hist (now (counts .entry)) (now (sums .entry))) (now (counted .entry)))) (now (out .entry)) (now (list .entry))) ⌝ }
-    ensures { λ r. ⌜ r .taken ≡ length (calls.events (calls.state-of head (judging.memory (store.rows (now (tags .entry)) (now (units .entry)) (now (uses .entry))) (wants.hist (now (counts .entry)) (now (sums .entry))) (now (counted .entry)))) (replay.calls-in (calls.state-of head (judging.memory (store.rows (now (tags .entry)) (now (units .entry)) (now (uses .entry))) (wants.hist (now (counts .entry)) (now (sums .entry))) (now (counted .entry)))) (now (out .entry)) (now (list .entry)))) % 2 ^ 64 ⌝ }
-    ensures { λ r. ⌜ bounds.Relay (calls.state-of head (judging.memory (store.rows (now (tags .entry)) (now (units .entry)) (now (uses .entry))) (wants.hist (now (counts .entry)) (now (sums .entry))) (now (counted .entry)))) (replay.calls-in (calls.state-of head (judging.memory (store.rows (now (tags .entry)) (now (units .entry)) (now (uses .entry))) (wants.hist (now (counts .entry)) (now (sums .entry))) (now (counted .entry)))) (now (out .entry)) (now (list .entry))) (r .admitted) ⌝ }
-    ensures { λ r. ⌜ r .«admitted_on» ≡ replay.totals (calls.admitted-on (calls.own watched)) (calls.state-of head (judging.memory (store.rows (now (tags .entry)) (now (units .entry)) (now (uses .entry))) (wants.hist (now (counts .entry)) (now (sums .entry))) (now (counted .entry)))) (replay.calls-in (calls.state-of head (judging.memory (store.rows (now (tags .entry)) (now (units .entry)) (now (uses .entry))) (wants.hist (now (counts .entry)) (now (sums .entry))) (now (counted .entry)))) (now (out .entry)) (now (list .entry))) ⌝ }
-    ensures { λ r. ⌜ bounds.Share watched (calls.state-of head (judging.memory (store.rows (now (tags .entry)) (now (units .entry)) (now (uses .entry))) (wants.hist (now (counts .entry)) (now (sums .entry))) (now (counted .entry)))) (replay.calls-in (calls.state-of head (judging.memory (store.rows (now (tags .entry)) (now (units .entry)) (now (uses .entry))) (wants.hist (now (counts .entry)) (now (sums .entry))) (now (counted .entry)))) (now (out .entry)) (now (list .entry))) (r .«admitted_on») ⌝ }
+    ensures { λ r. ⌜ runs.Replays watched from to
+        (replay.held head (now (tags .entry)) (now (units .entry)) (now (uses .entry)) (now (counts .entry)) (now (sums .entry)) (now (counted .entry)))
+        (now (out .entry)) (now (list .entry)) r
+        (replay.held (r .head) (now (tags .exit)) (now (units .exit)) (now (uses .exit)) (now (counts .exit)) (now (sums .exit)) (now (counted .exit)))
+        (now (out .exit)) ⌝ }
 {
     let none = [0u64; DIMS];
     let mut run = Replayed {
@@ -104,9 +116,11 @@ pub fn replay(
         admitted_on: none,
         handed: none,
         taken: 0,
+        over_share: false,
     };
+    let end = least(to, list.len());
     let mut i = 0;
-    while i < list.len() {
+    while i < end {
         let row = list[i];
         let held = run.head;
         let turned = turns::turn(
@@ -121,7 +135,7 @@ pub fn replay(
             row,
             out,
         );
-        run = after(run, turned);
+        run = after(run, turned, from <= i);
         i += 1;
     }
     run

@@ -27,12 +27,12 @@ use Rattle.fair.specs.Calls as calls
 use Rattle.fair.specs.Calls.{State, Call, Judge, Cut, Read}
 use Rattle.numbers.specs.Numbers.{cause-of}
 use Rattle.turns.specs.declared.Turned.{Turned}
-use Rattle.turns.specs.Replay.{Turns, words-in, cost-in, judge-in, cut-in, is-admitted, counted-if, amounts, on-watched}
+use Rattle.turns.specs.Replay.{Turns, words-in, cost-in, judge-in, cut-in, is-admitted, is-over-share, counted-if, amounts, over-share, key-of, on-watched}
 use Rattle.turns.proofs.Watched.{watched-is}
 use Rattle.turns.proofs.Totals.{same-parts, parts-at, zeros-parts}
 
-abbrev turned : Shedder → ℕ → List ℕ → List ℕ → List ℕ → Turned
-turned h n admitted on handed = record { head = h; number = n; admitted = admitted; «admitted_on» = on; handed = handed }
+abbrev turned : Shedder → ℕ → List ℕ → List ℕ → List ℕ → Bool → Turned
+turned h n admitted on handed over = record { head = h; number = n; admitted = admitted; «admitted_on» = on; handed = handed; «over_share» = over }
 
 -- ---- the call of a row, by what the program read of it
 unit-is : (row : List ℕ) (w : Words) (u : unit.Unit) → w ≡ words-in row → u ≡ sender.unit-of w → u ≡ sender.unit-of (words-in row)
@@ -92,25 +92,28 @@ module _ (h : Shedder) (m : Memory) (row : List ℕ) (u : unit.Unit) (cost : Lis
       ex ∙ ap (λ (b : Bool). counted-if b cost) (eg ∙ ap (λ (y : judging.Judged). is-admitted (y .answer)) e)
       ∙ admits (judging.judge h m u cost (getD row 6 0) .answer) cost (cost-parts row cost ec) ∙ ap (amounts calls.admitted (calls.state-of h m)) k
 
-  -- on the watched unit's own record, unless the judgement was refused
+  -- on the watched record, unless the judgement was refused
   judge-on : (watched : unit.Unit) (mine : Bool) (xs ys : List ℕ) (x : ℕ) → mine ≡ on-watched (m .rows .tags) (m .rows .units) (h .tracked) (h .«unit_room») watched u → xs ≡ amounts calls.admitted (calls.state-of h m) (judge-in row)
-      → ys ≡ counted-if mine xs → x ≡ judge-number (j .answer) → x ≡ 0 → ys ≡ amounts (calls.admitted-on (calls.own watched)) (calls.state-of h m) (judge-in row)
+      → ys ≡ counted-if mine xs → x ≡ judge-number (j .answer) → x ≡ 0 → ys ≡ amounts (calls.admitted-on (key-of watched)) (calls.state-of h m) (judge-in row)
   unfolding amounts
   judge-on watched mine xs ys x em ex ey en z =
       ey ∙ ap (λ (b : Bool). counted-if b xs) (em ∙ watched-is h m u cost (getD row 6 0) watched (sym (ap (λ (y : judging.Judged). judge-number (y .answer)) e) ∙ sym en ∙ z))
-      ∙ ap (counted-if (calls.same-key (calls.own watched) (calls.key (calls.state-of h m) u (calls.now (calls.state-of h m) (getD row 6 0))))) (ex ∙ sym (ap (amounts calls.admitted (calls.state-of h m)) k))
-      ∙ on-parts (calls.same-key (calls.own watched) (calls.key (calls.state-of h m) u (calls.now (calls.state-of h m) (getD row 6 0)))) (λ (d : ℕ). calls.admitted d (calls.state-of h m) (Judge u cost (getD row 6 0)))
-      ∙ ap (amounts (calls.admitted-on (calls.own watched)) (calls.state-of h m)) k
+      ∙ ap (counted-if (calls.same-key (key-of watched) (calls.key (calls.state-of h m) u (calls.now (calls.state-of h m) (getD row 6 0))))) (ex ∙ sym (ap (amounts calls.admitted (calls.state-of h m)) k))
+      ∙ on-parts (calls.same-key (key-of watched) (calls.key (calls.state-of h m) u (calls.now (calls.state-of h m) (getD row 6 0)))) (λ (d : ℕ). calls.admitted d (calls.state-of h m) (Judge u cost (getD row 6 0)))
+      ∙ ap (amounts (calls.admitted-on (key-of watched)) (calls.state-of h m)) k
+
+  judge-over : (over : Bool) → over ≡ is-over-share (j .answer) → over ≡ over-share (calls.state-of h m) (judge-in row)
+  judge-over over f = f ∙ ap (λ (y : judging.Judged). is-over-share (y .answer)) e ∙ ap (over-share (calls.state-of h m)) k
 
   judge-hands : replicate dims 0 ≡ amounts calls.handed (calls.state-of h m) (judge-in row)
   judge-hands = none calls.handed (calls.state-of h m) (Judge u cost (getD row 6 0)) (λ d. refl) ∙ ap (amounts calls.handed (calls.state-of h m)) k
 
 -- all of it, by what the program read of the row
-pub judge-turns : (h : Shedder) (m : Memory) (row : List ℕ) (w : Words) (u : unit.Unit) (cost : List ℕ) (j : Judgement) (n : Memory) (watched : unit.Unit) (mine goes : Bool) (xs ys : List ℕ) (x : ℕ)
+pub judge-turns : (h : Shedder) (m : Memory) (row : List ℕ) (w : Words) (u : unit.Unit) (cost : List ℕ) (j : Judgement) (n : Memory) (watched : unit.Unit) (mine goes over : Bool) (xs ys : List ℕ) (x : ℕ)
     → w ≡ words-in row → u ≡ sender.unit-of w → cost ≡ cost-in row → mine ≡ on-watched (m .rows .tags) (m .rows .units) (h .tracked) (h .«unit_room») watched u
-    → judging.judgement j n ≡ judging.judge h m u cost (getD row 6 0) → x ≡ judge-number (j .answer) → goes ≡ is-admitted (j .answer) → xs ≡ counted-if goes cost → ys ≡ counted-if mine xs
-    → Turns watched (calls.state-of h m) (judge-in row) (turned (j .head) x xs ys (replicate dims 0)) (calls.state-of (j .head) n)
-judge-turns h m row w u cost j n watched mine goes xs ys x ew eu ec em e en eg ex ey =
+    → judging.judgement j n ≡ judging.judge h m u cost (getD row 6 0) → x ≡ judge-number (j .answer) → goes ≡ is-admitted (j .answer) → xs ≡ counted-if goes cost → ys ≡ counted-if mine xs → over ≡ is-over-share (j .answer)
+    → Turns watched (calls.state-of h m) (judge-in row) (turned (j .head) x xs ys (replicate dims 0) over) (calls.state-of (j .head) n)
+judge-turns h m row w u cost j n watched mine goes over xs ys x ew eu ec em e en eg ex ey eo =
     let k : Judge u cost (getD row 6 0) ≡ judge-in row = row-judge row w u cost ew eu ec in
     let a : xs ≡ amounts calls.admitted (calls.state-of h m) (judge-in row) = judge-admits h m row u cost j n k e goes xs ec eg ex in
     record {
@@ -119,6 +122,7 @@ judge-turns h m row w u cost j n watched mine goes xs ys x ew eu ec em e en eg e
       admitted = a;
       handed = judge-hands h m row u cost j n k e;
       admitted-on = λ z. judge-on h m row u cost j n k e watched mine xs ys x em a ey en z;
+      over-share = judge-over h m row u cost j n k e over eo;
     }
 
 module _ (h : Shedder) (m : Rows) (g : Hist) (l : List (List ℕ)) (row : List ℕ) (u : unit.Unit) (c : Cause) (cost : List ℕ) (j : Cutting) (m' : Rows) (l' : List (List ℕ)) (k : Cut u c cost ≡ cut-in row) (e : cutting.cutting j m' l' ≡ cutting.cut h m l u c cost) where
@@ -131,8 +135,8 @@ module _ (h : Shedder) (m : Rows) (g : Hist) (l : List (List ℕ)) (row : List �
   cut-admits : replicate dims 0 ≡ amounts calls.admitted (calls.state-of h (memory m g l)) (cut-in row)
   cut-admits = none calls.admitted (calls.state-of h (memory m g l)) (Cut u c cost) (λ d. refl) ∙ ap (amounts calls.admitted (calls.state-of h (memory m g l))) k
 
-  cut-on : (watched : unit.Unit) → replicate dims 0 ≡ amounts (calls.admitted-on (calls.own watched)) (calls.state-of h (memory m g l)) (cut-in row)
-  cut-on watched = none (calls.admitted-on (calls.own watched)) (calls.state-of h (memory m g l)) (Cut u c cost) (λ d. refl) ∙ ap (amounts (calls.admitted-on (calls.own watched)) (calls.state-of h (memory m g l))) k
+  cut-on : (watched : unit.Unit) → replicate dims 0 ≡ amounts (calls.admitted-on (key-of watched)) (calls.state-of h (memory m g l)) (cut-in row)
+  cut-on watched = none (calls.admitted-on (key-of watched)) (calls.state-of h (memory m g l)) (Cut u c cost) (λ d. refl) ∙ ap (amounts (calls.admitted-on (key-of watched)) (calls.state-of h (memory m g l))) k
 
   cut-hands : (place : ℕ) (xs : List ℕ) → cost ≡ cost-in row → place ≡ index-of c → xs ≡ counted-if (eqb place 0) cost → xs ≡ amounts calls.handed (calls.state-of h (memory m g l)) (cut-in row)
   unfolding amounts
@@ -142,7 +146,7 @@ module _ (h : Shedder) (m : Rows) (g : Hist) (l : List (List ℕ)) (row : List �
 pub cut-turns : (h : Shedder) (m : Rows) (l : List (List ℕ)) (row : List ℕ) (w : Words) (u : unit.Unit) (c : Cause) (cost : List ℕ) (j : Cutting) (m' : Rows) (l' : List (List ℕ)) (place : ℕ) (xs : List ℕ) (x : ℕ)
     → w ≡ words-in row → u ≡ sender.unit-of w → cost ≡ cost-in row → c ≡ cause-of (getD row 6 0)
     → cutting.cutting j m' l' ≡ cutting.cut h m l u c cost → x ≡ cut-number (j .answer) → place ≡ index-of c → xs ≡ counted-if (eqb place 0) cost
-    → (watched : unit.Unit) (g : Hist) → Turns watched (calls.state-of h (memory m g l)) (cut-in row) (turned (j .head) x (replicate dims 0) (replicate dims 0) xs) (calls.state-of (j .head) (memory m' g l'))
+    → (watched : unit.Unit) (g : Hist) → Turns watched (calls.state-of h (memory m g l)) (cut-in row) (turned (j .head) x (replicate dims 0) (replicate dims 0) xs false) (calls.state-of (j .head) (memory m' g l'))
 cut-turns h m l row w u c cost j m' l' place xs x ew eu ec ek e en ep ex watched g =
     let k : Cut u c cost ≡ cut-in row = row-cut row w u cost c ew eu ec ek in
     record {
@@ -151,6 +155,7 @@ cut-turns h m l row w u c cost j m' l' place xs x ew eu ec ek e en ep ex watched
       admitted = cut-admits h m g l row u c cost j m' l' k e;
       handed = cut-hands h m g l row u c cost j m' l' k e place xs ec ep ex;
       admitted-on = λ z. cut-on h m g l row u c cost j m' l' k e watched;
+      over-share = ap (over-share (calls.state-of h (memory m g l))) k;
     }
 
 -- ---- a reading amounts to nothing

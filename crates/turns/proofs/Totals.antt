@@ -1,20 +1,20 @@
--- A call more in the list, and the totals. Assumes nothing.
-use mathlib.Core.Path.{_≡_, refl, sym, ap, _∙_}
+-- A call more in the list, and the totals of the run. Assumes nothing.
+use mathlib.Core.Path.{_≡_, refl, sym, ap, _∙_, subst}
 use mathlib.Core.Bool.{Bool, true, false, cond, not, true≢false}
 use mathlib.Core.List.{List, _∷_}
 use native.Mathlib.Nat.{mod-add-mod, add-comm}
-use Prim.Native.Nat.{ℕ, zero, suc, _+_, _<_, _^_, _%_}
+use Prim.Native.Nat.{ℕ, zero, suc, _+_, _<_, _≤_, _^_, _%_}
 use native.Mathlib.Numerals.{add-one}
 use native.Mathlib.Omega.{arith}
-use borrow.Author.Tests.{lt-ltb, le-ltb, eqb-true}
-use lib.Dec.{eqb, ltb}
+use borrow.Author.Tests.{lt-ltb, le-ltb, lt-leb, leb-false, eqb-true}
+use lib.Dec.{eqb, leb, ltb}
 use lib.ListN.{length, getD, set, replicate}
 use Rattle.flow.specs.Flow.{dims, upto}
 use Rattle.flow.proofs.Parts.{upto-at}
 use Rattle.fair.specs.Calls as calls
-use Rattle.fair.specs.Calls.{State, Call}
+use Rattle.fair.specs.Calls.{State, Call, Event, event, events, by}
 use Rattle.fair.specs.Runs.{sum}
-use Rattle.turns.specs.Replay.{amounts, sums, whole, totals, run}
+use Rattle.turns.specs.Replay.{amounts, sums, counts, totals, over-share, ends-over-share, run, run-after}
 
 -- two functions that agree at each dimension give the same list
 pub same-parts : (f g : ℕ → ℕ) (n : ℕ) (xs : List ℕ) → ((d : ℕ) → d < n → f d ≡ g d) → upto f n xs ≡ upto g n xs
@@ -30,66 +30,73 @@ unfolding upto
 zeros-parts = refl
 
 -- ---- a call more
-whole-next : (w : State → Call → ℕ) (first : State) (h : List Call) (c : Call) (b : Bool) → calls.refused (calls.state first h) c ≡ b
-    → whole w first (c ∷ h) ≡ cond b (whole w first h) (w (calls.state first h) c + whole w first h)
-unfolding whole calls.events sum
-whole-next w first h c true e = rw e refl
-whole-next w first h c false e = rw e refl
-
-events-next : (first : State) (h : List Call) (c : Call) (b : Bool) → calls.refused (calls.state first h) c ≡ b → length (calls.events first (c ∷ h)) ≡ cond b (length (calls.events first h)) (length (calls.events first h) + 1)
-unfolding calls.events
-events-next first h c true e = rw e refl
-events-next first h c false e = rw (e, add-one) refl
-
 -- refused by number or not, as the program asks it
 refused-is : (n : ℕ) (b : Bool) → eqb n 0 ≡ b → ltb 0 n ≡ not b
 refused-is n true e = le-ltb 0 n (omega (arith, eqb-true n 0 e))
 refused-is zero false e = absurd (true≢false e)
 refused-is (suc n) false e = lt-ltb 0 (suc n) (omega arith)
 
-added-up : (a b t m : ℕ) → t ≡ b + a → (a % m + b) % m ≡ t % m
-added-up a b t m e = mod-add-mod a m b ∙ ap (λ (x : ℕ). x % m) (add-comm a b ∙ sym e)
+-- before row `from` the run has no call
+pub taken-before : (first : State) (from : ℕ) (page : List ℕ) (rows : List (List ℕ)) (i : ℕ) → i ≤ from → run first from page rows i .taken ≡ 0
+unfolding run run-after counts
+taken-before first from page rows zero l = refl
+taken-before first from page rows (suc i) l = rw (lt-leb from i (omega arith)) (taken-before first from page rows i (omega arith))
 
-totals-step : (w : ℕ → State → Call → ℕ) (first : State) (h : List Call) (c : Call) (b : Bool) → eqb (calls.number (calls.state first h) c) 0 ≡ b
-    → cond b (sums (totals w first h) (amounts w (calls.state first h) c)) (totals w first h) ≡ totals w first (c ∷ h)
-unfolding totals sums amounts
-totals-step w first h c true e =
-    same-parts (λ (d : ℕ). (getD (upto (λ (d : ℕ). whole (w d) first h % 2 ^ 64) dims (replicate dims 0)) d 0 + getD (upto (λ (d : ℕ). w d (calls.state first h) c) dims (replicate dims 0)) d 0) % 2 ^ 64) (λ (d : ℕ). whole (w d) first (c ∷ h) % 2 ^ 64) dims (replicate dims 0)
-    (λ d l. ap (λ (x : ℕ). (x + getD (upto (λ (d : ℕ). w d (calls.state first h) c) dims (replicate dims 0)) d 0) % 2 ^ 64) (parts-at (λ (d : ℕ). whole (w d) first h % 2 ^ 64) d l)
-    ∙ ap (λ (x : ℕ). (whole (w d) first h % 2 ^ 64 + x) % 2 ^ 64) (parts-at (λ (d : ℕ). w d (calls.state first h) c) d l)
-    ∙ added-up (whole (w d) first h) (w d (calls.state first h) c) (whole (w d) first (c ∷ h)) (2 ^ 64) (whole-next (w d) first h c false (refused-is (calls.number (calls.state first h) c) true e)))
-totals-step w first h c false e = same-parts (λ (d : ℕ). whole (w d) first h % 2 ^ 64) (λ (d : ℕ). whole (w d) first (c ∷ h) % 2 ^ 64) dims (replicate dims 0) (λ d l. ap (λ (x : ℕ). x % 2 ^ 64) (sym (whole-next (w d) first h c true (refused-is (calls.number (calls.state first h) c) false e))))
+-- a function of the run that is the same for every run of no call
+grown-by : {A : Type 0} (f : ℕ → List Event → A) → ((es ds : List Event) → f 0 es ≡ f 0 ds) → (first : State) (h : List Call) (c : Call) (inside b : Bool) (n : ℕ)
+    → eqb (calls.number (calls.state first h) c) 0 ≡ b → calls.refused (calls.state first h) c ≡ not b → (inside ≡ false → n ≡ 0)
+    → f (cond (counts inside (calls.number (calls.state first h) c)) (suc n) n) (events first (c ∷ h)) ≡ cond (counts inside (calls.number (calls.state first h) c)) (f (suc n) (event (calls.state first h) c ∷ events first h)) (f n (events first h))
+unfolding counts events
+grown-by f z first h c false b n e r o = rw (o refl) (z _ _)
+grown-by f z first h c true true n e r o = rw (e, r) refl
+grown-by f z first h c true false n e r o = rw (e, r) refl
 
-taken-step : (first : State) (h : List Call) (c : Call) (b : Bool) → eqb (calls.number (calls.state first h) c) 0 ≡ b
-    → cond b ((length (calls.events first h) % 2 ^ 64 + 1) % 2 ^ 64) (length (calls.events first h) % 2 ^ 64) ≡ length (calls.events first (c ∷ h)) % 2 ^ 64
-taken-step first h c true e = mod-add-mod (length (calls.events first h)) (2 ^ 64) 1 ∙ ap (λ (x : ℕ). x % 2 ^ 64) (sym (events-next first h c false (refused-is (calls.number (calls.state first h) c) true e)))
-taken-step first h c false e = ap (λ (x : ℕ). x % 2 ^ 64) (sym (events-next first h c true (refused-is (calls.number (calls.state first h) c) false e)))
+module _ (first s : State) (h k : List Call) (c : Call) (m n n' : ℕ) (inside : Bool) (ek : c ∷ h ≡ k) (es : s ≡ calls.state first h) (em : m ≡ calls.number s c) (o : inside ≡ false → n ≡ 0) (en : cond (counts inside (calls.number (calls.state first h) c)) (suc n) n ≡ n') where
+  number-is : m ≡ calls.number (calls.state first h) c
+  number-is = em ∙ ap (λ (z : State). calls.number z c) es
 
--- ---- the totals of no row, and of one row more
-pub totals-none : (w : ℕ → State → Call → ℕ) (first : State) (page : List ℕ) (rows : List (List ℕ)) → replicate dims 0 ≡ totals w first (run first page rows 0 .list)
-unfolding totals whole run calls.events sum upto
-totals-none w first page rows = refl
+  -- what a call that does not count amounts to does not matter
+  only-counted : {A : Type 0} (x y x' : A) (a b : Bool) → inside ≡ a → eqb m 0 ≡ b → (m ≡ 0 → x' ≡ y) → cond (counts inside m) x' x ≡ cond (counts inside m) y x
+  unfolding counts
+  only-counted x y x' false b ei e f = rw ei refl
+  only-counted x y x' true true ei e f = rw (ei, e) (f (eqb-true m 0 e))
+  only-counted x y x' true false ei e f = rw (ei, e) refl
 
-pub taken-none : (first : State) (page : List ℕ) (rows : List (List ℕ)) → 0 ≡ length (calls.events first (run first page rows 0 .list)) % 2 ^ 64
-unfolding run calls.events
-taken-none first page rows = refl
+  pub counted-next : {A : Type 0} (f : ℕ → List Event → A) (x y x' : A) → ((es ds : List Event) → f 0 es ≡ f 0 ds) → x ≡ f n (events first h) → (m ≡ 0 → x' ≡ f (suc n) (event s c ∷ events first h))
+      → y ≡ cond (counts inside m) x' x → y ≡ f n' (events first k)
+  counted-next {A = A} f x y x' z ex ef ey =
+      ey ∙ only-counted x (f (suc n) (event s c ∷ events first h)) x' _ _ refl refl ef
+      ∙ ap (λ (w : A). cond (counts inside m) (f (suc n) (event s c ∷ events first h)) w) ex
+      ∙ ap (λ (w : State). cond (counts inside m) (f (suc n) (event w c ∷ events first h)) (f n (events first h))) es
+      ∙ ap (λ (w : ℕ). cond (counts inside w) (f (suc n) (event (calls.state first h) c ∷ events first h)) (f n (events first h))) number-is
+      ∙ sym (grown-by f z first h c inside _ n refl (refused-is (calls.number (calls.state first h) c) _ refl) o)
+      ∙ ap (λ (w : ℕ). f w (events first (c ∷ h))) en
+      ∙ ap (λ (w : List Call). f n' (events first w)) ek
 
--- what a refused call amounts to does not matter
-only-taken : (n : ℕ) (b : Bool) (xs ys t : List ℕ) → eqb n 0 ≡ b → (n ≡ 0 → xs ≡ ys) → cond b (sums t xs) t ≡ cond b (sums t ys) t
-only-taken n true xs ys t e f = ap (sums t) (f (eqb-true n 0 e))
-only-taken n false xs ys t e f = refl
+-- ---- the totals
+pub totals-none : (w : ℕ → State → Call → ℕ) (es : List Event) → replicate dims 0 ≡ totals w 0 es
+unfolding totals sum upto
+totals-none w es = refl
 
-pub totals-next : (w : ℕ → State → Call → ℕ) (first s : State) (h k : List Call) (c : Call) (n : ℕ) (xs ys am : List ℕ) → c ∷ h ≡ k → s ≡ calls.state first h → n ≡ calls.number s c → (n ≡ 0 → am ≡ amounts w s c)
-    → xs ≡ totals w first h → ys ≡ cond (eqb n 0) (sums xs am) xs → ys ≡ totals w first k
-totals-next w first s h k c n xs ys am ek es en ea ex ey =
-    ey ∙ ap (λ (z : List ℕ). cond (eqb n 0) (sums z am) z) ex
-    ∙ only-taken n (eqb n 0) am (amounts w (calls.state first h) c) (totals w first h) refl (λ z. ea z ∙ ap (λ (z : State). amounts w z c) es)
-    ∙ ap (λ (z : ℕ). cond (eqb z 0) (sums (totals w first h) (amounts w (calls.state first h) c)) (totals w first h)) (en ∙ ap (λ (z : State). calls.number z c) es)
-    ∙ totals-step w first h c _ refl ∙ ap (totals w first) ek
+added-up : (a b m : ℕ) → (a % m + b) % m ≡ (b + a) % m
+added-up a b m = mod-add-mod a m b ∙ ap (λ (x : ℕ). x % m) (add-comm a b)
 
-pub taken-next : (first s : State) (h k : List Call) (c : Call) (n x y : ℕ) → c ∷ h ≡ k → s ≡ calls.state first h → n ≡ calls.number s c → x ≡ length (calls.events first h) % 2 ^ 64
-    → y ≡ cond (eqb n 0) ((x + 1) % 2 ^ 64) x → y ≡ length (calls.events first k) % 2 ^ 64
-taken-next first s h k c n x y ek es en ex ey =
-    ey ∙ ap (λ (z : ℕ). cond (eqb n 0) ((z + 1) % 2 ^ 64) z) ex
-    ∙ ap (λ (z : ℕ). cond (eqb z 0) ((length (calls.events first h) % 2 ^ 64 + 1) % 2 ^ 64) (length (calls.events first h) % 2 ^ 64)) (en ∙ ap (λ (z : State). calls.number z c) es)
-    ∙ taken-step first h c _ refl ∙ ap (λ (z : List Call). length (calls.events first z) % 2 ^ 64) ek
+pub totals-more : (w : ℕ → State → Call → ℕ) (n : ℕ) (s : State) (c : Call) (es : List Event) → sums (totals w n es) (amounts w s c) ≡ totals w (suc n) (event s c ∷ es)
+unfolding totals sums amounts sum
+totals-more w n s c es =
+    same-parts _ _ dims (replicate dims 0)
+    (λ d l. ap (λ (x : ℕ). (x + getD (upto (λ (d : ℕ). w d s c) dims (replicate dims 0)) d 0) % 2 ^ 64) (parts-at (λ (d : ℕ). sum (by (w d)) n es % 2 ^ 64) d l)
+    ∙ ap (λ (x : ℕ). (sum (by (w d)) n es % 2 ^ 64 + x) % 2 ^ 64) (parts-at (λ (d : ℕ). w d s c) d l)
+    ∙ added-up (sum (by (w d)) n es) (w d s c) (2 ^ 64))
+
+-- ---- how many, and the last call
+pub taken-more : (n x : ℕ) → x ≡ n % 2 ^ 64 → (x + 1) % 2 ^ 64 ≡ suc n % 2 ^ 64
+taken-more n x e = ap (λ (z : ℕ). (z + 1) % 2 ^ 64) e ∙ mod-add-mod n (2 ^ 64) 1 ∙ ap (λ (z : ℕ). z % 2 ^ 64) (add-one n)
+
+pub over-none : (es ds : List Event) → ends-over-share 0 es ≡ ends-over-share 0 ds
+unfolding ends-over-share
+over-none es ds = refl
+
+pub over-more : (n : ℕ) (s : State) (c : Call) (es : List Event) → over-share s c ≡ ends-over-share (suc n) (event s c ∷ es)
+unfolding ends-over-share
+over-more n s c es = refl

@@ -1,10 +1,10 @@
 -- The call of a row, by the row's first word; one row more in the list. Assumes nothing.
 use mathlib.Core.Path.{_≡_, refl, ap, subst, _∙_}
-use mathlib.Core.Bool.{true, false}
+use mathlib.Core.Bool.{true, false, cond}
 use mathlib.Core.List.{List, [], _∷_}
-use Prim.Native.Nat.{ℕ, _+_}
+use Prim.Native.Nat.{ℕ, suc, _+_}
 use native.Mathlib.Numerals.{add-one}
-use lib.Dec.{eqb}
+use lib.Dec.{eqb, leb}
 use lib.ListN.{getD}
 use Rattle.sender.specs.declared.Unit as unit
 use Rattle.head.specs.declared.Shedder.{Shedder}
@@ -12,7 +12,7 @@ use Rattle.shed.specs.Judging.{Memory}
 use Rattle.fair.specs.Calls as calls
 use Rattle.fair.specs.Calls.{State, Call, Read}
 use Rattle.turns.specs.declared.Turned.{Turned}
-use Rattle.turns.specs.Replay.{judge-in, cut-in, reading-in, call-in, page-after, read-page, run-after, run, Turns}
+use Rattle.turns.specs.Replay.{judge-in, cut-in, reading-in, call-in, page-after, read-page, counts, run-after, run, Turns}
 
 call-judge : (row page : List ℕ) → eqb (getD row 0 0) 0 ≡ true → judge-in row ≡ call-in row page
 unfolding call-in
@@ -53,27 +53,39 @@ module _ (watched : unit.Unit) (s : State) (row page : List ℕ) (r : Turned) (t
 pub headed : (x y : Shedder) (m : Memory) (s : State) → x ≡ y → calls.state-of y m ≡ s → calls.state-of x m ≡ s
 headed x y m s e f = ap (λ (z : Shedder). calls.state-of z m) e ∙ f
 
-module _ (first : State) (page : List ℕ) (rows : List (List ℕ)) where
-  pub run-none : first ≡ calls.state first (run first page rows 0 .list)
+module _ (first : State) (from : ℕ) (page : List ℕ) (rows : List (List ℕ)) where
+  pub run-none : first ≡ calls.state first (run first from page rows 0 .list)
   unfolding calls.state run
   run-none = refl
 
-  pub page-none : page ≡ run first page rows 0 .page
+  pub page-none : page ≡ run first from page rows 0 .page
   unfolding run
   page-none = refl
 
-  -- the buffer out is what the rows before left
-  pub list-next : (i : ℕ) (out : List ℕ) → out ≡ run first page rows i .page → call-in (getD rows i []) out ∷ run first page rows i .list ≡ run first page rows (i + 1) .list
-  unfolding run run-after
-  list-next i out e = rw add-one (ap (λ (x : List ℕ). call-in (getD rows i []) x ∷ run first page rows i .list) e)
+  pub taken-none : 0 ≡ run first from page rows 0 .taken
+  unfolding run
+  taken-none = refl
 
-  pub page-next : (i : ℕ) (out left : List ℕ) (s : State) → out ≡ run first page rows i .page → s ≡ calls.state first (run first page rows i .list) → left ≡ page-after s (call-in (getD rows i []) out) out
-      → left ≡ run first page rows (i + 1) .page
-  unfolding run run-after
-  page-next i out left s e es f =
-      rw add-one
-      (f ∙ ap (λ (x : State). page-after x (call-in (getD rows i []) out) out) es
-      ∙ ap (λ (x : List ℕ). page-after (calls.state first (run first page rows i .list)) (call-in (getD rows i []) x) x) e)
+  -- row i more; the buffer out is what the rows before left
+  module _ (i : ℕ) (out : List ℕ) (e : out ≡ run first from page rows i .page) where
+    pub list-next : call-in (getD rows i []) out ∷ run first from page rows i .list ≡ run first from page rows (i + 1) .list
+    unfolding run run-after
+    list-next = rw add-one (ap (λ (x : List ℕ). call-in (getD rows i []) x ∷ run first from page rows i .list) e)
+
+    pub page-next : (left : List ℕ) (s : State) → s ≡ calls.state first (run first from page rows i .list) → left ≡ page-after s (call-in (getD rows i []) out) out
+        → left ≡ run first from page rows (i + 1) .page
+    unfolding run run-after
+    page-next left s es f =
+        rw add-one
+        (f ∙ ap (λ (x : State). page-after x (call-in (getD rows i []) out) out) es
+        ∙ ap (λ (x : List ℕ). page-after (calls.state first (run first from page rows i .list)) (call-in (getD rows i []) x) x) e)
+
+    pub taken-next : cond (counts (leb from i) (calls.number (calls.state first (run first from page rows i .list)) (call-in (getD rows i []) out))) (suc (run first from page rows i .taken)) (run first from page rows i .taken)
+        ≡ run first from page rows (i + 1) .taken
+    unfolding run run-after
+    taken-next =
+        rw add-one
+        (ap (λ (x : List ℕ). cond (counts (leb from i) (calls.number (calls.state first (run first from page rows i .list)) (call-in (getD rows i []) x))) (suc (run first from page rows i .taken)) (run first from page rows i .taken)) e)
 
 pub run-next : (first s t : State) (h k : List Call) (c : Call) → c ∷ h ≡ k → s ≡ calls.state first h → t ≡ calls.step s c → t ≡ calls.state first k
 unfolding calls.state

@@ -1,6 +1,6 @@
--- Whether a judgement uses the watched unit's own record, as the program asks it before: that of the judgement, unless it is refused. Assumes nothing.
+-- Whether a judgement uses the watched record, as the program asks it before: that of the judgement, unless it is refused. Assumes nothing.
 use mathlib.Core.Path.{_≡_, refl, sym, ap, _∙_, subst}
-use mathlib.Core.Bool.{Bool, true, false, cond}
+use mathlib.Core.Bool.{Bool, true, false, cond, true≢false}
 use mathlib.Core.List.{List}
 use Prim.Native.Nat.{ℕ, _+_, _≤_}
 use native.Mathlib.Omega.{arith}
@@ -25,7 +25,7 @@ use Rattle.shed.specs.Judging as judging
 use Rattle.shed.specs.Judging.{Memory, Judged, judge-ends, bounded}
 use Rattle.fair.specs.Calls as calls
 use Rattle.fair.proofs.View as view
-use Rattle.turns.specs.Replay.{own-used, on-watched}
+use Rattle.turns.specs.Replay.{key-of, own-used, on-watched}
 
 -- ---- the same unit
 told : (w u : unit.Unit) (r b : Bool) → calls.same-name (sender.name-of w) (sender.name-of u) ≡ b → Tells r (w ≡ u) → r ≡ b
@@ -35,8 +35,32 @@ told w u true false e t =
     absurd (subst T e (subst (λ (v : unit.Unit). T (calls.same-name (sender.name-of w) (sender.name-of v))) (t .shows refl) (view.same-self (view.named (sender.name-of w)))))
 told w u false true e t = t .shown (name-injective w u (ap (λ (n : view.Name). n .name) (view.same-is (view.named (sender.name-of w)) (view.named (sender.name-of u)) (subst T (sym e) tt))))
 
-pub same-told : (w u : unit.Unit) (r : Bool) → Tells r (w ≡ u) → r ≡ calls.same-name (sender.name-of w) (sender.name-of u)
-same-told w u r t = told w u r _ refl t
+-- of a unit that has a record of its own, as overflow has not
+told-own-by : (w u : unit.Unit) (r over : Bool) → sender.is-overflow w ≡ over → sender.is-overflow u ≡ false → Tells r (w ≡ u) → r ≡ calls.same-key (cond over calls.shared (calls.own w)) (calls.own u)
+told-own-by w u r false ew eu t = told w u r _ refl t
+told-own-by w u false true ew eu t = refl
+told-own-by w u true true ew eu t = absurd (true≢false (sym ew ∙ ap sender.is-overflow (t .shows refl) ∙ eu))
+
+overflow-not : (x a : Bool) → cond x false a ≡ true → x ≡ false
+overflow-not false a e = refl
+overflow-not true a e = absurd (true≢false (sym e))
+
+overflow-none : (tags : List ℕ) (units : List (List ℕ)) (tracked room : ℕ) (u : unit.Unit) → own-used tags units tracked room u ≡ true → sender.is-overflow u ≡ false
+unfolding own-used
+overflow-none tags units tracked room u e = overflow-not (sender.is-overflow u) _ e
+
+pub told-own : (tags : List ℕ) (units : List (List ℕ)) (tracked room : ℕ) (w u : unit.Unit) (r : Bool) → own-used tags units tracked room u ≡ true → Tells r (w ≡ u)
+    → r ≡ on-watched tags units tracked room w u
+unfolding on-watched key-of
+told-own tags units tracked room w u r e t = rw e (told-own-by w u r _ refl (overflow-none tags units tracked room u e) t)
+
+told-shared-by : (w u : unit.Unit) (over : Bool) → over ≡ calls.same-key (cond over calls.shared (calls.own w)) calls.shared
+told-shared-by w u true = refl
+told-shared-by w u false = refl
+
+pub told-shared : (tags : List ℕ) (units : List (List ℕ)) (tracked room : ℕ) (w u : unit.Unit) → own-used tags units tracked room u ≡ false → sender.is-overflow w ≡ on-watched tags units tracked room w u
+unfolding on-watched key-of
+told-shared tags units tracked room w u e = rw e (told-shared-by w u _)
 
 -- ---- the record that is used
 own-by : (m m' : Rows) (i tracked room tags units : ℕ) (over found fits : Bool) → ltb i tracked ≡ found → ltb tracked room ≡ fits → room ≤ tags → units ≡ room → tracked ≤ room
@@ -56,10 +80,6 @@ unfolding own-used entry
 own-is m tracked room u now eh eu l =
     own-by m (store.added m tracked (sender.name-of u) (flow.added now)) (store.find (m .tags) (m .units) (sender.name-of u) tracked) tracked room (length (m .tags)) (length (m .units)) (sender.is-overflow u) _ _ refl refl eh eu l
 
-keyed : (b : Bool) (w u : unit.Unit) → cond b (calls.same-name (sender.name-of w) (sender.name-of u)) false ≡ calls.same-key (calls.own w) (calls.key-at b u)
-keyed true w u = refl
-keyed false w u = refl
-
 -- ---- not refused: questions 3 and 4 were answered yes
 asked-by : (h : Shedder) (m : Memory) (n : ℕ) (a : Bool) (x : Judged) → eqb n 0 ≡ a → judge-number (choose a x (judge-ends (answer.Refused n) h m) .answer) ≡ 0 → n ≡ 0
 unfolding judge-number
@@ -76,9 +96,9 @@ asked h m u cost t f =
     refl f
 
 pub watched-is : (h : Shedder) (m : Memory) (u : unit.Unit) (cost : List ℕ) (t : ℕ) (w : unit.Unit) → judge-number (judging.judge h m u cost t .answer) ≡ 0
-    → on-watched (m .rows .tags) (m .rows .units) (h .tracked) (h .«unit_room») w u ≡ calls.same-key (calls.own w) (calls.key (calls.state-of h m) u (calls.now (calls.state-of h m) t))
+    → on-watched (m .rows .tags) (m .rows .units) (h .tracked) (h .«unit_room») w u ≡ calls.same-key (key-of w) (calls.key (calls.state-of h m) u (calls.now (calls.state-of h m) t))
 unfolding on-watched
 watched-is h m u cost t w f =
     let r = asked-ready h (length (m .rows .tags)) (length (m .rows .units)) (length (m .rows .uses)) (length (m .counted)) cost t (asked h m u cost t f) in
-    ap (λ (b : Bool). cond b (calls.same-name (sender.name-of w) (sender.name-of u)) false) (own-is (m .rows) (h .tracked) (h .«unit_room») u (calls.now (calls.state-of h m) t) (omega (arith, r .tags-room)) (r .units-room) (r .tracked-held))
-    ∙ keyed (ltb (entry (m .rows) (h .tracked) (h .«unit_room») u (calls.now (calls.state-of h m) t) .place .at) (h .«unit_room»)) w u
+    ap (λ (b : Bool). calls.same-key (key-of w) (calls.key-at b u))
+    (own-is (m .rows) (h .tracked) (h .«unit_room») u (calls.now (calls.state-of h m) t) (omega (arith, r .tags-room)) (r .units-room) (r .tracked-held))

@@ -3,23 +3,36 @@ use Prim.Native.Nat.{ℕ, zero, suc, _+_, _^_, _%_}
 use mathlib.Core.Path.{_≡_}
 use mathlib.Core.Bool.{Bool, true, false, cond}
 use mathlib.Core.List.{List, [], _∷_}
-use lib.Dec.{eqb, ltb}
+use lib.Dec.{eqb, leb, ltb}
 use lib.ListN.{length, getD, replicate}
+use lib.Ieee.{Float}
 use Rattle.flow.specs.Flow.{dims, upto}
 use Rattle.sender.specs.declared.Unit as unit
 use Rattle.sender.specs.declared.Words.{Words}
 use Rattle.sender.specs.Sender as sender
 use Rattle.store.specs.Store as store
+use Rattle.wants.specs.Wants as wants
+use Rattle.wants.specs.Wants.{Hist}
+use Rattle.head.specs.declared.Shedder.{Shedder}
 use Rattle.head.specs.declared.Answer.{Answer}
 use Rattle.head.specs.declared.Answer.the-variants as answer
 use Rattle.head.specs.Numbers.{choose}
 use Rattle.numbers.specs.Numbers.{cause-of, dim-of}
 use Rattle.report.specs.Report as reports
+use Rattle.shed.specs.Judging as judging
 use Rattle.fair.specs.Calls as calls
-use Rattle.fair.specs.Calls.{State, Call, Judge, Cut, Read, Reading, Report, ReportBeside, Count, Visited, Level, Rate, IsBounded, events, by}
+use Rattle.fair.specs.Calls.{State, Call, Event, Key, Judge, Cut, Read, Reading, Report, ReportBeside, Count, Visited, Level, Rate, IsBounded, by}
 use Rattle.fair.specs.Runs.{sum}
 use Rattle.turns.specs.declared.Turned.{Turned}
 
+-- ---- head and memory, as the program holds them
+abbrev pub held-with : Hist → Shedder → List ℕ → List (List ℕ) → List (List Float) → List (List ℕ) → State
+held-with g h tags units uses counted = calls.state-of h (judging.memory (store.rows tags units uses) g counted)
+
+abbrev pub held : Shedder → List ℕ → List (List ℕ) → List (List Float) → List (List ℕ) → List (List Float) → List (List ℕ) → State
+held h tags units uses counts sums counted = held-with (wants.hist counts sums) h tags units uses counted
+
+-- ---- rows
 -- a row: which call, the unit's five words, a stamp, a cause or a dimension, and the cost in each dimension
 unfoldable pub words-in : List ℕ → Words
 words-in row = record { kind = getD row 1 0; a = getD row 2 0; b = getD row 3 0; c = getD row 4 0; d = getD row 5 0 }
@@ -63,27 +76,31 @@ page-after s (Cut u c cost) page = page
 page-after s (Read q) page = read-page s q page
 
 -- ---- the list
--- the calls so far, the newest first, and the buffer after them
+-- the calls so far, the newest first; the buffer after them; and how many of them are calls of the run
 pub record Run : Type 0 where
   pub list : List Call
   pub page : List ℕ
+  pub taken : ℕ
 
-module _ (first : State) where
-  -- the call of a row gets the state that the calls before left, and the buffer as they left it
-  unfoldable pub run-after : Run → List ℕ → Run
-  run-after r row = record { list = call-in row (r .page) ∷ r .list; page = page-after (calls.state first (r .list)) (call-in row (r .page)) (r .page) }
+-- a call is one of the run where its row is, and where it was not refused by number
+unfoldable pub counts : Bool → ℕ → Bool
+counts inside number = cond inside (eqb number 0) false
+
+-- the run begins at row `from`
+module _ (first : State) (from : ℕ) where
+  -- the call of row i gets the state that the calls before left, and the buffer as they left it
+  unfoldable pub run-after : Run → ℕ → List ℕ → Run
+  run-after r i row =
+      record {
+        list = call-in row (r .page) ∷ r .list;
+        page = page-after (calls.state first (r .list)) (call-in row (r .page)) (r .page);
+        taken = cond (counts (leb from i) (calls.number (calls.state first (r .list)) (call-in row (r .page)))) (suc (r .taken)) (r .taken);
+      }
 
   -- the first n rows
   unfoldable pub run : List ℕ → List (List ℕ) → ℕ → Run
-  run page rows zero = record { list = []; page = page }
-  run page rows (suc n) = run-after (run page rows n) (getD rows n [])
-
-  -- all rows
-  abbrev pub calls-in : List ℕ → List (List ℕ) → List Call
-  calls-in page rows = run page rows (length rows) .list
-
-  abbrev pub page-in : List ℕ → List (List ℕ) → List ℕ
-  page-in page rows = run page rows (length rows) .page
+  run page rows zero = record { list = []; page = page; taken = 0 }
+  run page rows (suc n) = run-after (run page rows n) n (getD rows n [])
 
 -- ---- the totals
 unfoldable pub is-admitted : Answer → Bool
@@ -91,6 +108,12 @@ is-admitted answer.Admitted = true
 is-admitted answer.OverShare = false
 is-admitted answer.RelayRate = false
 is-admitted (answer.Refused n) = false
+
+unfoldable pub is-over-share : Answer → Bool
+is-over-share answer.Admitted = false
+is-over-share answer.OverShare = true
+is-over-share answer.RelayRate = false
+is-over-share (answer.Refused n) = false
 
 -- the cost, or nothing
 unfoldable pub counted-if : Bool → List ℕ → List ℕ
@@ -103,15 +126,27 @@ amounts w s c = upto (λ (d : ℕ). w d s c) dims (replicate dims 0)
 unfoldable pub sums : List ℕ → List ℕ → List ℕ
 sums xs ys = upto (λ (d : ℕ). (getD xs d 0 + getD ys d 0) % 2 ^ 64) dims (replicate dims 0)
 
--- over all calls of the list that were not refused by number, the exact sum of what each amounts to
-unfoldable pub whole : (State → Call → ℕ) → State → List Call → ℕ
-whole w first h = sum (by w) (length (events first h)) (events first h)
+-- over the run of the newest n of the calls es that were not refused by number: in each dimension what they amount to, modulo 2^64
+unfoldable pub totals : (ℕ → State → Call → ℕ) → ℕ → List Event → List ℕ
+totals w n es = upto (λ (d : ℕ). sum (by (w d)) n es % 2 ^ 64) dims (replicate dims 0)
 
--- and in each dimension, modulo 2^64
-unfoldable pub totals : (ℕ → State → Call → ℕ) → State → List Call → List ℕ
-totals w first h = upto (λ (d : ℕ). whole (w d) first h % 2 ^ 64) dims (replicate dims 0)
+-- a judgement answered over share
+abbrev pub over-share : State → Call → Bool
+over-share s (Judge u cost t) = is-over-share (calls.judges s u cost t .answer)
+over-share s (Cut u c cost) = false
+over-share s (Read q) = false
 
--- ---- the watched unit
+-- and whether the last call of the run is one
+unfoldable pub ends-over-share : ℕ → List Event → Bool
+ends-over-share zero es = false
+ends-over-share (suc n) [] = false
+ends-over-share (suc n) (e ∷ es) = over-share (e .before) (e .call)
+
+-- ---- the watched record
+-- a sender's own is named by its unit, overflow's by the unit overflow, which has none of its own
+unfoldable pub key-of : unit.Unit → Key
+key-of watched = cond (sender.is-overflow watched) calls.shared (calls.own watched)
+
 -- whether a judgement uses the unit's own record: overflow has none; it is found among those tracked, or there is room to add it. Where a list is shorter than `tracked` the judgement is refused
 unfoldable pub own-used : List ℕ → List (List ℕ) → ℕ → ℕ → unit.Unit → Bool
 own-used tags units tracked room u =
@@ -120,15 +155,16 @@ own-used tags units tracked room u =
     (cond (ltb (length tags) tracked) false
     (cond (ltb (length units) tracked) false (ltb (store.find tags units (sender.name-of u) tracked) tracked))))
 
--- and whether that is the watched unit's
+-- and whether the record that it uses is the watched one
 unfoldable pub on-watched : List ℕ → List (List ℕ) → ℕ → ℕ → unit.Unit → unit.Unit → Bool
-on-watched tags units tracked room watched u = cond (own-used tags units tracked room u) (calls.same-name (sender.name-of watched) (sender.name-of u)) false
+on-watched tags units tracked room watched u = calls.same-key (key-of watched) (calls.key-at (own-used tags units tracked room u) u)
 
 -- ---- one row
--- what the program has after a row whose call is c: head and memory t, the number of its refusal, and what it amounts to; of a refused call what it amounts to on the watched unit's record is left open, since nothing counts it
+-- what the program has after a row whose call is c: head and memory t, the number of its refusal, and what it amounts to; of a refused call what it amounts to on the watched record is left open, since nothing counts it
 pub record Turns (watched : unit.Unit) (s : State) (c : Call) (r : Turned) (t : State) : Type 0 where
   pub left : t ≡ calls.step s c
   pub number : r .number ≡ calls.number s c
   pub admitted : r .admitted ≡ amounts calls.admitted s c
   pub handed : r .handed ≡ amounts calls.handed s c
-  pub admitted-on : r .number ≡ 0 → r .«admitted_on» ≡ amounts (calls.admitted-on (calls.own watched)) s c
+  pub admitted-on : r .number ≡ 0 → r .«admitted_on» ≡ amounts (calls.admitted-on (key-of watched)) s c
+  pub over-share : r .«over_share» ≡ over-share s c

@@ -5,10 +5,7 @@ mod rows;
 
 ghost use mathlib.Core.Path.{_≡_};
 ghost use Rattle.sender.specs.declared.Unit as unit;
-ghost use Rattle.store.specs.Store as store;
-ghost use Rattle.wants.specs.Wants as wants;
 ghost use Rattle.wants.specs.Wants.{Hist};
-ghost use Rattle.shed.specs.Judging as judging;
 ghost use Rattle.shed.specs.Judging.{Memory};
 ghost use Rattle.fair.specs.Calls as calls;
 ghost use Rattle.turns.specs.Replay as replay;
@@ -35,6 +32,17 @@ fn is_admitted(answer: Answer) -> bool
     }
 }
 
+fn is_over_share(answer: Answer) -> bool
+    ensures { λ r. ⌜ r ≡ replay.is-over-share answer ⌝ }
+{
+    match answer {
+        Answer::Admitted => false,
+        Answer::OverShare => true,
+        Answer::RelayRate => false,
+        Answer::Refused(_) => false,
+    }
+}
+
 // The cost, or nothing.
 fn counted_if(on: bool, cost: [u64; DIMS]) -> [u64; DIMS]
     ensures { λ r. ⌜ r ≡ replay.counted-if on cost ⌝ }
@@ -45,13 +53,14 @@ fn counted_if(on: bool, cost: [u64; DIMS]) -> [u64; DIMS]
     [0u64; DIMS]
 }
 
-// What a call leaves, the number of its refusal (0 for none), what it admits, what of that on the watched unit's own record, and what it hands back.
+// What a call leaves, the number of its refusal (0 for none), what it admits, what of that on the watched record, what it hands back, and whether it is a judgement answered over share.
 pub struct Turned {
     pub head: Shedder,
     pub number: u64,
     pub admitted: [u64; DIMS],
     pub admitted_on: [u64; DIMS],
     pub handed: [u64; DIMS],
+    pub over_share: bool,
 }
 
 fn judge_row(
@@ -65,7 +74,10 @@ fn judge_row(
     watched: Unit,
     row: [u64; 7 + DIMS],
 ) -> Turned
-    ensures { λ r. ⌜ replay.Turns watched (calls.state-of head (judging.memory (store.rows (now (tags .entry)) (now (units .entry)) (now (uses .entry))) (wants.hist (now (counts .entry)) (now (sums .entry))) (now (counted .entry)))) (replay.judge-in row) r (calls.state-of (r .head) (judging.memory (store.rows (now (tags .exit)) (now (units .exit)) (now (uses .exit))) (wants.hist (now (counts .exit)) (now (sums .exit))) (now (counted .exit)))) ⌝ }
+    ensures { λ r. ⌜ replay.Turns watched
+        (replay.held head (now (tags .entry)) (now (units .entry)) (now (uses .entry)) (now (counts .entry)) (now (sums .entry)) (now (counted .entry)))
+        (replay.judge-in row) r
+        (replay.held (r .head) (now (tags .exit)) (now (units .exit)) (now (uses .exit)) (now (counts .exit)) (now (sums .exit)) (now (counted .exit))) ⌝ }
 {
     let unit = sender::unit_of(words_in(row));
     let cost = cost_in(row);
@@ -90,12 +102,14 @@ fn judge_row(
     let admitted = counted_if(goes, cost);
     let admitted_on = counted_if(mine, admitted);
     let handed = [0u64; DIMS];
+    let over_share = is_over_share(answer);
     Turned {
         head: left,
         number,
         admitted,
         admitted_on,
         handed,
+        over_share,
     }
 }
 
@@ -107,7 +121,10 @@ fn cut_row(
     counted: &mut [[u64; 8]],
     row: [u64; 7 + DIMS],
 ) -> Turned
-    ensures { λ r. ⌜ ((watched : unit.Unit) (g : Hist) → replay.Turns watched (calls.state-of head (judging.memory (store.rows (now (tags .entry)) (now (units .entry)) (now (uses .entry))) g (now (counted .entry)))) (replay.cut-in row) r (calls.state-of (r .head) (judging.memory (store.rows (now (tags .exit)) (now (units .exit)) (now (uses .exit))) g (now (counted .exit))))) ⌝ }
+    ensures { λ r. ⌜ ((watched : unit.Unit) (g : Hist) → replay.Turns watched
+        (replay.held-with g head (now (tags .entry)) (now (units .entry)) (now (uses .entry)) (now (counted .entry)))
+        (replay.cut-in row) r
+        (replay.held-with g (r .head) (now (tags .exit)) (now (units .exit)) (now (uses .exit)) (now (counted .exit)))) ⌝ }
 {
     let unit = sender::unit_of(words_in(row));
     let cost = cost_in(row);
@@ -125,13 +142,15 @@ fn cut_row(
         admitted: none,
         admitted_on: none,
         handed,
+        over_share: false,
     }
 }
 
 // A reading leaves the head as it was and amounts to nothing.
 fn turned_by_reading(head: Shedder, number: u64) -> Turned
     ensures { λ r. ⌜ r .head ≡ head ⌝ }
-    ensures { λ r. ⌜ ((watched : unit.Unit) (m : Memory) (q : calls.Reading) → number ≡ calls.read-number (calls.state-of head m) q → replay.Turns watched (calls.state-of head m) (calls.Read q) r (calls.state-of (r .head) m)) ⌝ }
+    ensures { λ r. ⌜ ((watched : unit.Unit) (m : Memory) (q : calls.Reading) → number ≡ calls.read-number (calls.state-of head m) q
+        → replay.Turns watched (calls.state-of head m) (calls.Read q) r (calls.state-of (r .head) m)) ⌝ }
 {
     let none = [0u64; DIMS];
     Turned {
@@ -140,6 +159,7 @@ fn turned_by_reading(head: Shedder, number: u64) -> Turned
         admitted: none,
         admitted_on: none,
         handed: none,
+        over_share: false,
     }
 }
 
@@ -156,8 +176,13 @@ pub fn turn(
     row: [u64; 7 + DIMS],
     out: &mut [u8],
 ) -> Turned
-    ensures { λ r. ⌜ replay.Turns watched (calls.state-of head (judging.memory (store.rows (now (tags .entry)) (now (units .entry)) (now (uses .entry))) (wants.hist (now (counts .entry)) (now (sums .entry))) (now (counted .entry)))) (replay.call-in row (now (out .entry))) r (calls.state-of (r .head) (judging.memory (store.rows (now (tags .exit)) (now (units .exit)) (now (uses .exit))) (wants.hist (now (counts .exit)) (now (sums .exit))) (now (counted .exit)))) ⌝ }
-    ensures { λ r. ⌜ now (out .exit) ≡ replay.page-after (calls.state-of head (judging.memory (store.rows (now (tags .entry)) (now (units .entry)) (now (uses .entry))) (wants.hist (now (counts .entry)) (now (sums .entry))) (now (counted .entry)))) (replay.call-in row (now (out .entry))) (now (out .entry)) ⌝ }
+    ensures { λ r. ⌜ replay.Turns watched
+        (replay.held head (now (tags .entry)) (now (units .entry)) (now (uses .entry)) (now (counts .entry)) (now (sums .entry)) (now (counted .entry)))
+        (replay.call-in row (now (out .entry))) r
+        (replay.held (r .head) (now (tags .exit)) (now (units .exit)) (now (uses .exit)) (now (counts .exit)) (now (sums .exit)) (now (counted .exit))) ⌝ }
+    ensures { λ r. ⌜ now (out .exit) ≡ replay.page-after
+        (replay.held head (now (tags .entry)) (now (units .entry)) (now (uses .entry)) (now (counts .entry)) (now (sums .entry)) (now (counted .entry)))
+        (replay.call-in row (now (out .entry))) (now (out .entry)) ⌝ }
 {
     let which = row[0];
     if which == 0 {

@@ -25,7 +25,7 @@ fn uses_own(head: Shedder, tags: &[u16], units: &[[u64; 7]], unit: Unit) -> bool
     i < head.tracked
 }
 
-// Whether a judgement of the unit uses the watched unit's own record.
+// Whether a judgement of the unit uses the watched record: that of the unit `watched`, or overflow's where that is overflow.
 pub fn on_watched(
     head: Shedder,
     tags: &[u16],
@@ -38,5 +38,5 @@ pub fn on_watched(
     if uses_own(head, tags, units, unit) {
         return sender::same_unit(watched, unit);
     }
-    false
+    sender::is_overflow(watched)
 }

@@ -1,8 +1,6 @@
 // A row that only reads: the number of its refusal, and what it leaves in the report's buffer.
 ghost use mathlib.Core.Path.{_≡_};
-ghost use Rattle.store.specs.Store as store;
 ghost use Rattle.wants.specs.Wants.{Hist};
-ghost use Rattle.shed.specs.Judging as judging;
 ghost use Rattle.shed.specs.Judging.{Memory};
 ghost use Rattle.fair.specs.Calls as calls;
 ghost use Rattle.turns.specs.Replay as replay;
@@ -50,8 +48,12 @@ pub fn read_row(
     row: [u64; 7 + DIMS],
     out: &mut [u8],
 ) -> u64
-    ensures { λ r. ⌜ ((g : Hist) → r ≡ calls.read-number (calls.state-of head (judging.memory (store.rows (now (tags .entry)) (now (units .entry)) (now (uses .entry))) g (now (counted .entry)))) (replay.reading-in row (now (out .entry)))) ⌝ }
-    ensures { λ r. ⌜ ((g : Hist) → now (out .exit) ≡ replay.read-page (calls.state-of head (judging.memory (store.rows (now (tags .entry)) (now (units .entry)) (now (uses .entry))) g (now (counted .entry)))) (replay.reading-in row (now (out .entry))) (now (out .entry))) ⌝ }
+    ensures { λ r. ⌜ ((g : Hist) → r ≡ calls.read-number
+        (replay.held-with g head (now (tags .entry)) (now (units .entry)) (now (uses .entry)) (now (counted .entry)))
+        (replay.reading-in row (now (out .entry)))) ⌝ }
+    ensures { λ r. ⌜ ((g : Hist) → now (out .exit) ≡ replay.read-page
+        (replay.held-with g head (now (tags .entry)) (now (units .entry)) (now (uses .entry)) (now (counted .entry)))
+        (replay.reading-in row (now (out .entry))) (now (out .entry))) ⌝ }
 {
     let which = row[0];
     if which == 2 {

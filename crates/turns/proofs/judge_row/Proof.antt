@@ -33,6 +33,9 @@ counted-if-requires c κs = search needs
 counted-if-requires-2 : tie.Need-counted-if-requires-2
 counted-if-requires-2 c κs = search needs
 
+is-over-share-requires : tie.Need-is-over-share-requires
+is-over-share-requires c κs = search needs
+
 same-length : tie.Need-same-length
 same-length c = search needs
 
@@ -46,7 +49,21 @@ same-length-4 : tie.Need-same-length-4
 same-length-4 c = search needs
 
 returns : tie.Need-returns
-returns c = judge-turns (c .before .before .before .before .before .before .before .before .before .before .before .before .before .before .before .before .before .before .before .before .before .before .before .before .args .head) _ _ (c .before .before .before .before .before .before .before .before .before .before .before .before .before .before .before .before .before .before .before .before .before .before .words-in .result) (c .before .before .before .before .before .before .before .before .before .before .before .before .before .before .before .before .before .before .before .before .before .unit-of .result) (c .before .before .before .before .before .before .before .before .before .before .before .before .before .before .before .before .before .before .before .before .cost-in .result) (c .before .before .before .before .before .before .before .before .before .before .judge .result) _ (c .before .before .before .before .before .before .before .before .before .before .before .before .before .before .before .before .before .before .before .before .before .before .before .before .args .watched) (c .before .before .before .before .before .before .before .before .before .before .before .before .before .before .before .before .before .on-watched .result) (c .before .before .is-admitted .result) (c .before .counted-if .result) (c .counted-if2 .result) (c .before .before .before .judge-number .result) (c .before .before .before .before .before .before .before .before .before .before .before .before .before .before .before .before .before .before .before .before .before .before .words-in .ensures) (c .before .before .before .before .before .before .before .before .before .before .before .before .before .before .before .before .before .before .before .before .before .unit-of .ensures) (c .before .before .before .before .before .before .before .before .before .before .before .before .before .before .before .before .before .before .before .before .cost-in .ensures) (c .before .before .before .before .before .before .before .before .before .before .before .before .before .before .before .before .before .on-watched .ensures) (c .before .before .before .before .before .before .before .before .before .before .judge .ensures .0) (c .before .before .before .judge-number .ensures) (c .before .before .is-admitted .ensures) (c .before .counted-if .ensures) (c .counted-if2 .ensures)
+returns c =
+    let on = c .before in
+    let admits = on .before in
+    let goes = admits .before in
+    let numbered = goes .before in
+    let judged = numbered .before .before .before .before .before .before .before in
+    let watched = judged .before .before .before .before .before .before .before in
+    let costed = watched .before .before .before in
+    let named = costed .before in
+    let worded = named .before in
+    let start = worded .before .before in
+    judge-turns (start .args .head) _ _ (worded .words-in .result) (named .unit-of .result) (costed .cost-in .result) (judged .judge .result) _ (start .args .watched)
+    (watched .on-watched .result) (goes .is-admitted .result) (c .is-over-share .result) (admits .counted-if .result) (on .counted-if2 .result) (numbered .judge-number .result)
+    (worded .words-in .ensures) (named .unit-of .ensures) (costed .cost-in .ensures) (watched .on-watched .ensures) (judged .judge .ensures .0) (numbered .judge-number .ensures)
+    (goes .is-admitted .ensures) (admits .counted-if .ensures) (on .counted-if2 .ensures) (c .is-over-share .ensures)
 
 pub judge-row-spec : {M : Type 1} → statement M
 judge-row-spec =
@@ -62,6 +79,7 @@ judge-row-spec =
     is-admitted-requires
     counted-if-requires
     counted-if-requires-2
+    is-over-share-requires
     same-length
     same-length-2
     same-length-3

@@ -12,6 +12,7 @@ returns c = (
     admitted = read-none _ _ _ (λ d. refl);
     handed = read-none _ _ _ (λ d. refl);
     admitted-on = λ z. read-none _ _ _ (λ d. refl);
+    over-share = refl;
   }),
 )
 

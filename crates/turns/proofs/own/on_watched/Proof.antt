@@ -1,5 +1,4 @@
-use Rattle.turns.proofs.Watched.{same-told}
-use Rattle.turns.specs.Replay.{on-watched}
+use Rattle.turns.proofs.Watched.{told-own, told-shared}
 use mathlib.Core.Path.{sym, _∙_}
 use borrow.Author.Needs.{needs}
 use Rattle.turns.proofs.own.on_watched.Statement.{statement}
@@ -12,12 +11,13 @@ same-unit-requires : tie.Need-same-unit-requires
 same-unit-requires c κs = search needs
 
 returns : tie.Need-returns
-unfolding on-watched
-returns c = simp (sym (c .before .before .uses-own .ensures) ∙ c .before .if1 .taken) (same-told _ _ _ (c .same-unit .ensures))
+returns c = told-own _ _ _ _ _ _ _ (sym (c .before .before .uses-own .ensures) ∙ c .before .if1 .taken) (c .same-unit .ensures)
+
+is-overflow-requires : tie.Need-is-overflow-requires
+is-overflow-requires c κs = search needs
 
 returns-2 : tie.Need-returns-2
-unfolding on-watched
-returns-2 c = simp (sym (c .before .uses-own .ensures) ∙ c .if1 .left)
+returns-2 c = c .is-overflow .ensures ∙ told-shared _ _ _ _ _ _ (sym (c .before .before .uses-own .ensures) ∙ c .before .if1 .left)
 
 pub on-watched-spec : {M : Type 1} → statement M
-on-watched-spec = tie.close (tie.spec uses-own-requires same-unit-requires returns returns-2)
+on-watched-spec = tie.close (tie.spec uses-own-requires same-unit-requires returns is-overflow-requires returns-2)
