@@ -1,6 +1,9 @@
-// Standard input as a list of calls: each line of the trial's language as rows of `replay`.
+// Standard input as lists of calls: each line of the trial's language as rows of `replay`. An R line begins a list, and each
+// W line behind it runs it.
+use crate::runs;
 use flow::DIMS;
 use libc::STDIN_FILENO;
+use libc::STDOUT_FILENO;
 use script::Amounts;
 use script::CutLine;
 use script::FEED;
@@ -27,15 +30,12 @@ const REPORT: u64 = 2;
 
 const IS_BOUNDED: u64 = 8;
 
-// The first R line and the unit of the first J line, each with whether it has come; how many rows there are, and whether
-// a row more found no room; how many bytes of the line that is being read are kept, and whether the input has ended.
-pub struct List {
-    pub start: StartLine,
-    pub is_started: bool,
-    pub watched: Unit,
-    pub is_watched: bool,
-    pub rows: usize,
-    pub is_cut_off: bool,
+// The last R line; how many rows there are since, and whether a row more found no room; how many bytes of the line that is
+// being read are kept, and whether the input has ended.
+struct List {
+    start: StartLine,
+    rows: usize,
+    is_cut_off: bool,
     len: usize,
     is_over: bool,
 }
@@ -51,14 +51,19 @@ fn none() -> List {
     };
     List {
         start,
-        is_started: false,
-        watched: Unit::Overflow,
-        is_watched: false,
         rows: 0,
         is_cut_off: false,
         len: 0,
         is_over: false,
     }
+}
+
+// The first n rows; all of them where there are fewer.
+fn first_rows(rows: &[[u64; 7 + DIMS]], n: usize) -> &[[u64; 7 + DIMS]] {
+    if rows.len() < n {
+        return rows;
+    }
+    &rows[..n]
 }
 
 fn row_of(which: u64, unit: Unit, last: u64, cost: Amounts) -> [u64; 7 + DIMS] {
@@ -87,44 +92,16 @@ fn added(mut l: List, rows: &mut [[u64; 7 + DIMS]; ROWS], row: [u64; 7 + DIMS]) 
     l
 }
 
-fn started(l: List, start: StartLine) -> List {
-    if l.is_started {
-        return l;
-    }
-    let watched = l.watched;
-    List {
-        start,
-        is_started: true,
-        watched,
-        is_watched: l.is_watched,
-        rows: l.rows,
-        is_cut_off: l.is_cut_off,
-        len: l.len,
-        is_over: l.is_over,
-    }
-}
-
-fn watching(l: List, unit: Unit) -> List {
-    if l.is_watched {
-        return l;
-    }
-    let start = l.start;
-    List {
-        start,
-        is_started: l.is_started,
-        watched: unit,
-        is_watched: true,
-        rows: l.rows,
-        is_cut_off: l.is_cut_off,
-        len: l.len,
-        is_over: l.is_over,
-    }
+fn started(mut l: List, start: StartLine) -> List {
+    l.start = start;
+    l.rows = 0;
+    l.is_cut_off = false;
+    l
 }
 
 fn judgement(l: List, rows: &mut [[u64; 7 + DIMS]; ROWS], j: JudgeLine) -> List {
     let unit = j.unit;
-    let w = watching(l, unit);
-    added(w, rows, row_of(JUDGE, unit, j.stamp, j.cost))
+    added(l, rows, row_of(JUDGE, unit, j.stamp, j.cost))
 }
 
 fn cut(l: List, rows: &mut [[u64; 7 + DIMS]; ROWS], c: CutLine) -> List {
@@ -147,6 +124,35 @@ fn readings(list: List, rows: &mut [[u64; 7 + DIMS]; ROWS]) -> List {
     l
 }
 
+// `W label from to`, of which s is the part behind `W `: the list is run with that record watched, the run being the rows
+// from `from` to before `to`.
+fn watch(l: List, rows: &[[u64; 7 + DIMS]; ROWS], s: &[u8]) {
+    let name = script::first(s);
+    let numbers = script::rest(s);
+    if spelling::is_label(name) {
+        if script::are_numbers(numbers, 1) {
+            let start = l.start;
+            let watched = spelling::unit_in(name);
+            let from = script::number_at(numbers, 0) as usize;
+            let to = script::number_at(numbers, 1) as usize;
+            runs::run(start, first_rows(rows, l.rows), watched, from, to);
+        }
+    }
+}
+
+// The line is said again, so that what it gives stands below it.
+fn watched(l: List, rows: &[[u64; 7 + DIMS]; ROWS], line: &[u8]) {
+    if text::same(script::first(line), b"W") {
+        io::write_all(STDOUT_FILENO, line);
+        io::write_all(STDOUT_FILENO, b"\n");
+        if l.is_cut_off {
+            io::write_all(STDOUT_FILENO, b"the list is too long\n");
+            return;
+        }
+        watch(l, rows, script::rest(line));
+    }
+}
+
 // The line that is kept. A line that has no form is no call.
 fn ended(list: List, rows: &mut [[u64; 7 + DIMS]; ROWS], line: &[u8; LINE]) -> List {
     let mut l = list;
@@ -161,7 +167,10 @@ fn ended(list: List, rows: &mut [[u64; 7 + DIMS]; ROWS], line: &[u8; LINE]) -> L
         Line::Judge(j) => judgement(l, rows, j),
         Line::Cut(c) => cut(l, rows, c),
         Line::Report => readings(l, rows),
-        Line::Nothing => l,
+        Line::Nothing => {
+            watched(l, rows, whole);
+            l
+        }
     }
 }
 
@@ -200,7 +209,7 @@ fn turn(mut l: List, rows: &mut [[u64; 7 + DIMS]; ROWS], line: &mut [u8; LINE]) 
 
 // The whole input; a last line without a line end is not taken. Nothing says that an input ends, so the turns are counted
 // down from a number that no run uses up.
-pub fn read(rows: &mut [[u64; 7 + DIMS]; ROWS]) -> List {
+pub fn read(rows: &mut [[u64; 7 + DIMS]; ROWS]) {
     let mut line = [0u8; LINE];
     let mut l = none();
     let mut turns = u64::MAX;
@@ -211,5 +220,4 @@ pub fn read(rows: &mut [[u64; 7 + DIMS]; ROWS]) -> List {
         }
         turns -= 1;
     }
-    l
 }

@@ -1,9 +1,9 @@
--- `first_rows` is safe.
+-- `list::first_rows` is safe.
 use native.Mathlib.Omega.{arith}
 use lib.ListN.{length-take}
 use borrow.Author.Needs.{needs}
-use Rattle.replayrun.proofs.first_rows.Statement.{statement}
-use Rattle.replayrun.proofs.first_rows.Tie as tie
+use Rattle.replayrun.proofs.list.first_rows.Statement.{statement}
+use Rattle.replayrun.proofs.list.first_rows.Tie as tie
 
 returns : tie.Need-returns
 returns c = search needs
