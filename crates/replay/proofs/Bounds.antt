@@ -41,14 +41,12 @@ relay-run a b top rate es (suc k) f =
     before : suc k - 1 ≡ k
     before = omega arith
 
-smaller : (x y z : ℕ) → x ≤ y → 256000 * y ≤ z → 256000 * x ≤ z
-smaller x y z h k = omega arith
-
 pub relay : (first : State) (x : Run) (total : List ℕ) → total ≡ totals admitted (x .taken) (events first (x .list)) → Relay first x total
 relay first x total e rate ceiling begun d l =
     let es = events first (x .list) in
-    smaller (getD total d 0) (sum (by (admitted d)) (x .taken) es) _ (subst (λ (t : List ℕ). getD t d 0 ≤ sum (by (admitted d)) (x .taken) es) (sym e) (total-most admitted (x .taken) es d l))
-    (relay-run (by (admitted d)) (by (handed d)) _ (getD rate d 0) es (x .taken) (λ k. demand rate ceiling first begun .relay (x .list) d l k))
+    let most : getD total d 0 ≤ sum (by (admitted d)) (x .taken) es = subst (λ (t : List ℕ). getD t d 0 ≤ sum (by (admitted d)) (x .taken) es) (sym e) (total-most admitted (x .taken) es d l) in
+    let bound = relay-run (by (admitted d)) (by (handed d)) _ (getD rate d 0) es (x .taken) (λ k. demand rate ceiling first begun .relay (x .list) d l k) in
+    omega arith
 
 -- ---- one record
 share-run : (a b f : Event → List Event → ℕ) (p : ℕ) (es : List Event) (n : ℕ)
@@ -62,16 +60,14 @@ share-run a b f p es (suc k) g =
     before : suc k - 1 ≡ k
     before = omega arith
 
-smaller-times : (x y z p : ℕ) → x ≤ y → 256000 * y * p ≤ z → 256000 * x * p ≤ z
-smaller-times x y z p h k = let m = mul-le-mul-right p h in omega arith
-
 pub share : (watched : unit.Unit) (first : State) (x : Run) (total : List ℕ) → total ≡ totals (admitted-on (key-of watched)) (x .taken) (events first (x .list)) → Share watched first x total
 share watched first x total e rate ceiling begun d l =
     let es = events first (x .list) in
     let r = key-of watched in
-    smaller-times (getD total d 0) (sum (by (admitted-on r d)) (x .taken) es) _ (power 1074)
-    (subst (λ (t : List ℕ). getD t d 0 ≤ sum (by (admitted-on r d)) (x .taken) es) (sym e) (total-most (admitted-on r) (x .taken) es d l))
-    (share-run (by (admitted-on r d)) (by (handed-on r d)) (by (fill-on r d)) (power 1074) es (x .taken) (λ k. demand rate ceiling first begun .share r (x .list) d l k))
+    let most : getD total d 0 ≤ sum (by (admitted-on r d)) (x .taken) es = subst (λ (t : List ℕ). getD t d 0 ≤ sum (by (admitted-on r d)) (x .taken) es) (sym e) (total-most (admitted-on r) (x .taken) es d l) in
+    let times = mul-le-mul-right (power 1074) most in
+    let bound = share-run (by (admitted-on r d)) (by (handed-on r d)) (by (fill-on r d)) (power 1074) es (x .taken) (λ k. demand rate ceiling first begun .share r (x .list) d l k) in
+    omega arith
 
 -- ---- told over share
 -- the list that ends with the newest call that was not refused
@@ -127,7 +123,7 @@ Third u cost t s es = T (Ieee.le (want s u cost t) one) → Within (key s u (now
 third : (rate ceiling : List ℕ) (first : State) (h : List Call) → Begun rate ceiling first → (s : State) (u : unit.Unit) (cost : List ℕ) (t : ℕ) → Newest first h (event s (Judge u cost t)) → Third u cost t s (events first h)
 third rate ceiling first h begun s u cost t n =
     subst (λ (x : State). Third u cost t x (events first h)) (n .state)
-    (subst (λ (es : List Event). Third u cost t (calls.state first (n .before)) es) (n .list) (λ w m a. demand rate ceiling first begun .spared (n .before) u cost t (n .taken) w m a))
+    (subst (λ (es : List Event). Third u cost t (calls.state first (n .before)) es) (n .list) (λ w m a. demand rate ceiling first begun .spared (n .before) u cost t (n .taken) w (λ d l k p. omega (arith, m d l k p)) a))
 
 pub spared : (first : State) (x : Run) (over : Bool) → over ≡ ends-over-share (x .taken) (events first (x .list)) → Spared first x over
 spared first x over e rate ceiling begun o s u cost t es f w m =

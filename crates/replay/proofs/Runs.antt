@@ -37,7 +37,8 @@ ran-none watched from first page rows h =
       over-share = refl;
     }
 
-module _ (watched : unit.Unit) (from : ℕ) (first s : State) (m : Memory) (page out out' : List ℕ) (rows : List (List ℕ)) (i : ℕ) (r r' : Replayed) (t : Turned) (ran : Ran watched first (run first from page rows i) r s out) (turns : Turns watched s (call-in (getD rows i []) out) t (state-of (t .head) m)) (adds : Adds (leb from i) r t r') where
+module _ (watched : unit.Unit) (from : ℕ) (first s : State) (m : Memory) (page out out' : List ℕ) (rows : List (List ℕ)) (i : ℕ) (r r' : Replayed) (t : Turned)
+    (ran : Ran watched first (run first from page rows i) r s out) (turns : Turns watched s (call-in (getD rows i []) out) t (state-of (t .head) m)) (adds : Adds (leb from i) r t r') where
   abbrev now-run : Run
   now-run = run first from page rows i
 

@@ -1,10 +1,12 @@
 -- The reading of a row: the number of its refusal and the buffer after it, by what the program asked. Assumes nothing.
-use mathlib.Core.Path.{_≡_, refl, ap, _∙_}
+use mathlib.Core.Path.{_≡_, refl, sym, ap, _∙_}
 use mathlib.Core.Bool.{Bool, true, false}
-use mathlib.Core.List.{List}
-use Prim.Native.Nat.{ℕ}
+use mathlib.Core.List.{List, []}
+use Prim.Native.Nat.{ℕ, _≤_}
 use lib.Dec.{eqb}
-use lib.ListN.{length, getD}
+use lib.ListN.{length, take, getD}
+use lib.Seq.{take-length, length-take-le}
+use Rattle.text.specs.Page.{page, write}
 use Rattle.head.specs.declared.Shedder.{Shedder}
 use Rattle.head.specs.declared.Cause.{Cause}
 use Rattle.head.specs.declared.Dim.{Dim}
@@ -16,12 +18,13 @@ use Rattle.head.specs.Numbers.{choose}
 use Rattle.head.specs.Answers.{reading-number, level-number, rate-number, bounded-number}
 use Rattle.head.specs.Readings.{visited, cut-batches, level-read, rate-read, is-bounded}
 use Rattle.numbers.specs.Numbers.{cause-of, dim-of}
-use Rattle.head.specs.declared.Written.{Written}
+use Rattle.head.specs.declared.Written.the-variants.{Bytes, Refused}
 use Rattle.report.specs.Report as reports
+use Rattle.report.proofs.Asking.{written}
 use Rattle.shed.specs.Judging.{Memory}
 use Rattle.fair.specs.Calls as calls
 use Rattle.fair.specs.Calls.{State}
-use Rattle.turns.specs.Replay.{head-reading, reading-in, read-page}
+use Rattle.turns.specs.Replay.{head-reading, reading-in, read-page, report-page}
 
 -- ---- the head alone
 module _ (h : Shedder) (m : Memory) (which n : ℕ) (x : ℕ) where
@@ -47,15 +50,37 @@ module _ (h : Shedder) (m : Memory) (which n : ℕ) (x : ℕ) where
   bounded-is r e f g k er ex = rw (e, f, g, k) (ex ∙ ap bounded-number er)
 
 -- ---- the report and the call beside it
-module _ (s : State) (row page : List ℕ) where
-  pub report-is : (x n : ℕ) → eqb (getD row 0 0) 2 ≡ true → n ≡ calls.report-number s page → x ≡ n → x ≡ calls.read-number s (reading-in row page)
-  unfolding reading-in
-  report-is x n e en ex = rw e (ex ∙ en)
+bytes-of : (t : Bool) (a : ℕ) (xs : List ℕ) → reports.bytes (reports.choose t (Bytes (length xs)) (Refused a)) ≡ length (reports.choose t xs [])
+bytes-of true a xs = refl
+bytes-of false a xs = refl
 
-  pub report-page : (w : Written) (out : List ℕ) → eqb (getD row 0 0) 2 ≡ true
-      → reports.ends w out ≡ reports.report (s .head) (length (s .memory .rows .tags)) (length (s .memory .rows .units)) (length (s .memory .rows .uses)) (s .memory .counted) page → out ≡ read-page s (reading-in row page) page
+-- a buffer of its own for `report`, as long as the one to be written
+pub front-length : (n : ℕ) (xs : List ℕ) → n ≤ length xs → n ≡ length (take n xs)
+front-length n xs h = sym (length-take-le n xs h)
+
+-- the front part that `report` returned, put into the buffer
+module _ (h : Shedder) (tags units uses : ℕ) (rows : List (List ℕ)) (out : List ℕ) where
+  answer-bytes : reports.bytes (reports.answer h tags units uses rows (length out)) ≡ length (reports.front h tags units uses rows (length out))
+  unfolding reports.answer reports.front
+  answer-bytes = bytes-of (eqb (reports.report-asked h tags units uses rows (length out)) 0) (reports.report-asked h tags units uses rows (length out)) _
+
+  pub part-put : (after part : List ℕ) (room r : ℕ) → room ≡ length out → part ≡ reports.front h tags units uses rows room → page after r ≡ write (page out 0) part → after ≡ reports.report h tags units uses rows out .out
+  part-put after part room r er ep ew =
+      let g = reports.front h tags units uses rows (length out) in
+      let w = reports.answer h tags units uses rows (length out) in
+      let whole : take (length g) g ≡ g = take-length g in
+      ap (λ (x : reports.Ends). x .out)
+      (written h tags units uses rows out w g after (length g) r refl (sym answer-bytes) (ap (λ (n : ℕ). take n g) answer-bytes ∙ whole)
+      (ew ∙ ap (write (page out 0)) (ep ∙ ap (reports.front h tags units uses rows) er ∙ sym whole)))
+
+module _ (s : State) (row page : List ℕ) where
+  pub report-is : (x : ℕ) → eqb (getD row 0 0) 2 ≡ true → x ≡ calls.report-number s page → x ≡ calls.read-number s (reading-in row page)
   unfolding reading-in
-  report-page w out e ew = rw e (ap (λ (y : reports.Ends). y .out) ew)
+  report-is x e ex = rw e ex
+
+  pub report-page-is : (out : List ℕ) → eqb (getD row 0 0) 2 ≡ true → out ≡ report-page s page → out ≡ read-page s (reading-in row page) page
+  unfolding reading-in
+  report-page-is out e eo = rw e eo
 
   pub beside-is : (x : ℕ) → eqb (getD row 0 0) 2 ≡ false → eqb (getD row 0 0) 3 ≡ true → x ≡ calls.report-number s page → x ≡ calls.read-number s (reading-in row page)
   unfolding reading-in

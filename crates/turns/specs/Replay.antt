@@ -61,8 +61,11 @@ call-in row page = choose (eqb (getD row 0 0) 0) (judge-in row) (choose (eqb (ge
 
 -- ---- the buffer
 -- a report leaves what its definition says, any other call leaves the buffer as it was
+abbrev pub report-page : State → List ℕ → List ℕ
+report-page s out = reports.report (s .head) (length (s .memory .rows .tags)) (length (s .memory .rows .units)) (length (s .memory .rows .uses)) (s .memory .counted) out .out
+
 abbrev pub read-page : State → Reading → List ℕ → List ℕ
-read-page s (Report out) page = reports.report (s .head) (length (s .memory .rows .tags)) (length (s .memory .rows .units)) (length (s .memory .rows .uses)) (s .memory .counted) out .out
+read-page s (Report out) page = report-page s out
 read-page s (ReportBeside out) page = page
 read-page s (Count c) page = page
 read-page s Visited page = page

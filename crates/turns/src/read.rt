@@ -14,6 +14,9 @@ use numbers::rate_number;
 use numbers::reading_number;
 use numbers::report_number;
 
+// The longest buffer that is written through `report`: the trial's.
+const PAGE: usize = 4096;
+
 // A reading of the head alone.
 fn head_read(head: Shedder, which: u64, n: u64) -> u64
     ensures { λ r. ⌜ ((m : Memory) → r ≡ calls.read-number (calls.state-of head m) (replay.head-reading which n)) ⌝ }
@@ -38,6 +41,36 @@ fn head_read(head: Shedder, which: u64, n: u64) -> u64
     bounded_number(bounded)
 }
 
+// A report into out; the answer is the number of its refusal. A buffer that `report` is lent goes into its result, and has no
+// value after it: so it gets one of its own, as long as out, and its part is put into out. A longer buffer than PAGE is
+// written by the call that `report` makes itself.
+fn put_report(
+    head: Shedder,
+    tags: &[u16],
+    units: &[[u64; 7]],
+    uses: &[[f64; 2 * DIMS]],
+    counted: &[[u64; 8]],
+    out: &mut [u8],
+) -> u64
+    ensures { λ r. ⌜ ((g : Hist) → r ≡ calls.report-number
+        (replay.held-with g head (now (tags .entry)) (now (units .entry)) (now (uses .entry)) (now (counted .entry)))
+        (now (out .entry))) ⌝ }
+    ensures { λ r. ⌜ ((g : Hist) → now (out .exit) ≡ replay.report-page
+        (replay.held-with g head (now (tags .entry)) (now (units .entry)) (now (uses .entry)) (now (counted .entry)))
+        (now (out .entry))) ⌝ }
+{
+    let room = out.len();
+    if room <= PAGE {
+        let number = report::report_refusal(head, tags, units, uses, counted, out);
+        let mut own = [0u8; PAGE];
+        let part = report::report(head, tags, units, uses, counted, &mut own[..room]);
+        text::put(out, 0, part);
+        return number;
+    }
+    let written = report::write_report(head, tags, units, uses, counted, out);
+    report_number(written)
+}
+
 // A report into out, the call beside it, or a reading of the head.
 pub fn read_row(
     head: Shedder,
@@ -57,8 +90,7 @@ pub fn read_row(
 {
     let which = row[0];
     if which == 2 {
-        let written = report::write_report(head, tags, units, uses, counted, out);
-        return report_number(written);
+        return put_report(head, tags, units, uses, counted, out);
     }
     if which == 3 {
         return report::report_refusal(head, tags, units, uses, counted, out);

@@ -43,7 +43,19 @@ same-length-4 : tie.Need-same-length-4
 same-length-4 c = search needs
 
 returns : tie.Need-returns
-returns c = cut-turns (c .before .before .before .before .before .before .before .before .before .before .before .before .before .before .before .before .before .before .before .args .head) _ _ _ (c .before .before .before .before .before .before .before .before .before .before .before .before .before .before .before .before .before .words-in .result) (c .before .before .before .before .before .before .before .before .before .before .before .before .before .before .before .before .unit-of .result) (c .before .before .before .before .before .before .before .before .before .before .before .before .before .before .cause-of .result) (c .before .before .before .before .before .before .before .before .before .before .before .before .before .before .before .cost-in .result) (c .before .before .before .before .before .before .before .before .before .cut .result) _ _ (c .before .index-of .result) (c .counted-if .result) (c .before .before .cut-number .result) (c .before .before .before .before .before .before .before .before .before .before .before .before .before .before .before .before .before .words-in .ensures) (c .before .before .before .before .before .before .before .before .before .before .before .before .before .before .before .before .unit-of .ensures) (c .before .before .before .before .before .before .before .before .before .before .before .before .before .before .before .cost-in .ensures) (c .before .before .before .before .before .before .before .before .before .before .before .before .before .before .cause-of .ensures) (c .before .before .before .before .before .before .before .before .before .cut .ensures .0) (c .before .before .cut-number .ensures) (c .before .index-of .ensures .0) (c .counted-if .ensures)
+returns c =
+    let placed = c .before in
+    let numbered = placed .before in
+    let cuts = numbered .before .before .before .before .before .before .before in
+    let caused = cuts .before .before .before .before .before in
+    let costed = caused .before in
+    let named = costed .before in
+    let worded = named .before in
+    let start = worded .before .before in
+    cut-turns (start .args .head) _ _ _ (worded .words-in .result) (named .unit-of .result) (caused .cause-of .result) (costed .cost-in .result) (cuts .cut .result) _ _
+    (placed .index-of .result) (c .counted-if .result) (numbered .cut-number .result)
+    (worded .words-in .ensures) (named .unit-of .ensures) (costed .cost-in .ensures) (caused .cause-of .ensures) (cuts .cut .ensures .0) (numbered .cut-number .ensures)
+    (placed .index-of .ensures .0) (c .counted-if .ensures)
 
 pub cut-row-spec : {M : Type 1} → statement M
 cut-row-spec =

@@ -23,7 +23,10 @@ same-length-4 : tie.Need-same-length-4
 same-length-4 c = search needs
 
 returns : tie.Need-returns
-returns c = judge-turn _ _ _ _ (c .before .before .before .before .before .judge-row .result) _ (eq-eqb _ 0 (c .before .before .before .before .before .before .before .before .before .before .before .before .if1 .taken)) (c .before .before .before .before .before .judge-row .ensures)
+returns c =
+    let judged = c .before .before .before .before .before in
+    let first = judged .before .before .before .before .before .before .before in
+    judge-turn _ _ _ _ (judged .judge-row .result) _ (eq-eqb _ 0 (first .if1 .taken)) (judged .judge-row .ensures)
 
 cut-row-requires : tie.Need-cut-row-requires
 cut-row-requires c κs = search needs
@@ -41,7 +44,10 @@ same-length-8 : tie.Need-same-length-8
 same-length-8 c = search needs
 
 returns-2 : tie.Need-returns-2
-returns-2 c = cut-turn _ _ _ _ (c .before .before .before .before .before .cut-row .result) _ (ne-eqb _ 0 (c .before .before .before .before .before .before .before .before .before .before .before .if1 .left)) (eq-eqb _ 1 (c .before .before .before .before .before .before .before .before .before .before .if2 .taken)) (c .before .before .before .before .before .cut-row .ensures _ _)
+returns-2 c =
+    let cuts = c .before .before .before .before .before in
+    let second = cuts .before .before .before .before .before in
+    cut-turn _ _ _ _ (cuts .cut-row .result) _ (ne-eqb _ 0 (second .before .if1 .left)) (eq-eqb _ 1 (second .if2 .taken)) (cuts .cut-row .ensures _ _)
 
 read-row-requires : tie.Need-read-row-requires
 read-row-requires c κs = search needs
@@ -65,7 +71,11 @@ same-length-13 : tie.Need-same-length-13
 same-length-13 c = search needs
 
 returns-3 : tie.Need-returns-3
-returns-3 c = read-turn _ _ _ _ (c .turned-by-reading .result) _ _ (ne-eqb _ 0 (c .before .before .before .before .before .before .before .before .before .before .if1 .left)) (ne-eqb _ 1 (c .before .before .before .before .before .before .before .before .before .if2 .left)) (c .turned-by-reading .ensures .1 _ _ _ (c .before .before .before .read-row .ensures .0 _)) (c .before .before .before .read-row .ensures .1 _)
+returns-3 c =
+    let reads = c .before .before .before in
+    let second = reads .before .before .before .before .before .before in
+    read-turn _ _ _ _ (c .turned-by-reading .result) _ _ (ne-eqb _ 0 (second .before .if1 .left)) (ne-eqb _ 1 (second .if2 .left))
+    (c .turned-by-reading .ensures .1 _ _ _ (reads .read-row .ensures .0 _)) (reads .read-row .ensures .1 _)
 
 pub turn-spec : {M : Type 1} → statement M
 turn-spec =

@@ -1,6 +1,7 @@
 use Rattle.turns.specs.Replay.{own-used}
 use mathlib.Core.Path.{sym, _∙_}
 use borrow.Author.Tests.{lt-ltb, le-ltb}
+use native.Mathlib.Omega.{arith}
 use borrow.Author.Needs.{needs}
 use Rattle.turns.proofs.own.uses_own.Statement.{statement}
 use Rattle.turns.proofs.own.uses_own.Tie as tie
@@ -14,15 +15,25 @@ returns c = simp (sym (c .before .is-overflow .ensures) ∙ c .if1 .taken)
 
 returns-2 : tie.Need-returns-2
 unfolding own-used
-returns-2 c = simp (sym (c .before .before .before .is-overflow .ensures) ∙ c .before .before .if1 .left, lt-ltb _ _ (c .if2 .taken))
+returns-2 c =
+    let first = c .before .before in
+    let head = first .before .before .before .args .head in
+    simp (sym (first .before .is-overflow .ensures) ∙ first .if1 .left, lt-ltb (head .tracked) (head .«unit_room») (omega (arith, c .if2 .taken)))
 
 returns-3 : tie.Need-returns-3
 unfolding own-used
-returns-3 c = simp (sym (c .before .before .before .before .before .is-overflow .ensures) ∙ c .before .before .before .before .if1 .left, le-ltb _ _ (c .before .before .if2 .left), lt-ltb _ _ (c .if3 .taken))
+returns-3 c =
+    let second = c .before .before in
+    let first = second .before .before in
+    simp (sym (first .before .is-overflow .ensures) ∙ first .if1 .left, le-ltb _ _ (second .if2 .left), lt-ltb _ _ (c .if3 .taken))
 
 returns-4 : tie.Need-returns-4
 unfolding own-used
-returns-4 c = simp (sym (c .before .before .before .before .before .before .before .is-overflow .ensures) ∙ c .before .before .before .before .before .before .if1 .left, le-ltb _ _ (c .before .before .before .before .if2 .left), le-ltb _ _ (c .before .before .if3 .left), lt-ltb _ _ (c .if4 .taken))
+returns-4 c =
+    let third = c .before .before in
+    let second = third .before .before in
+    let first = second .before .before in
+    simp (sym (first .before .is-overflow .ensures) ∙ first .if1 .left, le-ltb _ _ (second .if2 .left), le-ltb _ _ (third .if3 .left), lt-ltb _ _ (c .if4 .taken))
 
 name-of-requires : tie.Need-name-of-requires
 name-of-requires c κs = search needs
@@ -32,7 +43,14 @@ find-requires c κs = search needs
 
 returns-5 : tie.Need-returns-5
 unfolding own-used
-returns-5 c = simp (sym (c .before .before .before .before .before .before .before .before .before .before .is-overflow .ensures) ∙ c .before .before .before .before .before .before .before .before .before .if1 .left, le-ltb _ _ (c .before .before .before .before .before .before .before .if2 .left), le-ltb _ _ (c .before .before .before .before .before .if3 .left), le-ltb _ _ (c .before .before .before .if4 .left), c .before .find .ensures, c .before .before .name-of .ensures)
+returns-5 c =
+    let named = c .before .before in
+    let fourth = named .before in
+    let third = fourth .before .before in
+    let second = third .before .before in
+    let first = second .before .before in
+    let over = sym (first .before .is-overflow .ensures) ∙ first .if1 .left in
+    simp (over, le-ltb _ _ (second .if2 .left), le-ltb _ _ (third .if3 .left), le-ltb _ _ (fourth .if4 .left), c .before .find .ensures, named .name-of .ensures)
 
 pub uses-own-spec : {M : Type 1} → statement M
 uses-own-spec =

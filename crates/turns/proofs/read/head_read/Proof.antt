@@ -35,7 +35,12 @@ level-number-requires : tie.Need-level-number-requires
 level-number-requires c κs = search needs
 
 returns-3 : tie.Need-returns-3
-returns-3 c = λ m. level-is _ m _ _ _ _ _ (ne-eqb _ 4 (c .before .before .before .before .before .if1 .left)) (ne-eqb _ 5 (c .before .before .before .before .if2 .left)) (eq-eqb _ 6 (c .before .before .before .if3 .taken)) (c .before .before .dim-of .ensures) (c .before .level .ensures .0) (c .level-number .ensures)
+returns-3 c =
+    let third = c .before .before .before in
+    let second = third .before in
+    let first = second .before in
+    λ m. level-is _ m _ _ _ _ _ (ne-eqb _ 4 (first .if1 .left)) (ne-eqb _ 5 (second .if2 .left)) (eq-eqb _ 6 (third .if3 .taken))
+    (c .before .before .dim-of .ensures) (c .before .level .ensures .0) (c .level-number .ensures)
 
 dim-of-requires-2 : tie.Need-dim-of-requires-2
 dim-of-requires-2 c κs = search needs
@@ -47,7 +52,13 @@ rate-number-requires : tie.Need-rate-number-requires
 rate-number-requires c κs = search needs
 
 returns-4 : tie.Need-returns-4
-returns-4 c = λ m. rate-is _ m _ _ _ _ _ (ne-eqb _ 4 (c .before .before .before .before .before .before .if1 .left)) (ne-eqb _ 5 (c .before .before .before .before .before .if2 .left)) (ne-eqb _ 6 (c .before .before .before .before .if3 .left)) (eq-eqb _ 7 (c .before .before .before .if4 .taken)) (c .before .before .dim-of2 .ensures) (c .before .rate .ensures .0) (c .rate-number .ensures)
+returns-4 c =
+    let fourth = c .before .before .before in
+    let third = fourth .before in
+    let second = third .before in
+    let first = second .before in
+    λ m. rate-is _ m _ _ _ _ _ (ne-eqb _ 4 (first .if1 .left)) (ne-eqb _ 5 (second .if2 .left)) (ne-eqb _ 6 (third .if3 .left)) (eq-eqb _ 7 (fourth .if4 .taken))
+    (c .before .before .dim-of2 .ensures) (c .before .rate .ensures .0) (c .rate-number .ensures)
 
 is-bounded-requires : tie.Need-is-bounded-requires
 is-bounded-requires c κs = search needs
@@ -56,7 +67,13 @@ bounded-number-requires : tie.Need-bounded-number-requires
 bounded-number-requires c κs = search needs
 
 returns-5 : tie.Need-returns-5
-returns-5 c = λ m. bounded-is _ m _ _ _ _ (ne-eqb _ 4 (c .before .before .before .before .before .if1 .left)) (ne-eqb _ 5 (c .before .before .before .before .if2 .left)) (ne-eqb _ 6 (c .before .before .before .if3 .left)) (ne-eqb _ 7 (c .before .before .if4 .left)) (c .before .is-bounded .ensures .0) (c .bounded-number .ensures)
+returns-5 c =
+    let fourth = c .before .before in
+    let third = fourth .before in
+    let second = third .before in
+    let first = second .before in
+    λ m. bounded-is _ m _ _ _ _ (ne-eqb _ 4 (first .if1 .left)) (ne-eqb _ 5 (second .if2 .left)) (ne-eqb _ 6 (third .if3 .left)) (ne-eqb _ 7 (fourth .if4 .left))
+    (c .before .is-bounded .ensures .0) (c .bounded-number .ensures)
 
 pub head-read-spec : {M : Type 1} → statement M
 head-read-spec =

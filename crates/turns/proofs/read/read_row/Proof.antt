@@ -1,5 +1,7 @@
 use borrow.Author.Tests.{eq-eqb, ne-eqb}
-use Rattle.turns.proofs.Reading.{report-is, report-page, beside-is, beside-page, head-is, head-page}
+use Rattle.turns.proofs.Reading.{report-is, report-page-is, beside-is, beside-page, head-is, head-page}
+use mathlib.Core.Path.{_≡_}
+use lib.ListN.{getD}
 use borrow.Author.Needs.{needs}
 use Rattle.turns.proofs.read.read_row.Statement.{statement}
 use Rattle.turns.proofs.read.read_row.Tie as tie
@@ -7,19 +9,18 @@ use Rattle.turns.proofs.read.read_row.Tie as tie
 array-read-which : tie.Need-array-read-which
 array-read-which c = search needs
 
-write-report-requires : tie.Need-write-report-requires
-write-report-requires c κs = search needs
-
-report-number-requires : tie.Need-report-number-requires
-report-number-requires c κs = search needs
+put-report-requires : tie.Need-put-report-requires
+put-report-requires c κs = search needs
 
 same-length : tie.Need-same-length
 same-length c = search needs
 
 returns : tie.Need-returns
 returns c =
-    let e = (eq-eqb _ 2 (c .before .before .before .before .before .if1 .taken)) in
-    ((λ g. report-is _ _ _ _ _ e (c .before .before .before .write-report .ensures .1) (c .report-number .ensures)), (λ g. report-page _ _ _ _ _ e (c .before .before .before .write-report .ensures .0)))
+    let two = c .before .before .before .before in
+    let is : getD (two .before .before .before .args .t6) 0 0 ≡ 2 = two .if1 .taken in
+    let e = eq-eqb (getD (two .before .before .before .args .t6) 0 0) 2 is in
+    ((λ g. report-is _ _ _ _ e (c .before .before .put-report .ensures .0 g)), (λ g. report-page-is _ _ _ _ e (c .before .before .put-report .ensures .1 g)))
 
 report-refusal-requires : tie.Need-report-refusal-requires
 report-refusal-requires c κs = search needs
@@ -50,8 +51,7 @@ read-row-spec =
     tie.close
     (tie.spec
     array-read-which
-    write-report-requires
-    report-number-requires
+    put-report-requires
     same-length
     returns
     report-refusal-requires
