@@ -19,7 +19,7 @@ use Rattle.fade.proofs.TableA as A
 use Rattle.fade.proofs.TableB as B
 
 pub series : Series
-series = record { encloses = capped; narrows = narrows }
+series = record { encloses = λ p q n m Q l. omega (arith, capped p q n m Q l); narrows = narrows }
 
 -- ---- the entries
 short : (r : ℕ) → r < 2000 → Entry A.least 2000 r (nearest r 2000)
@@ -55,7 +55,7 @@ fading = record {
   short = λ r h. entry-nearest A.least 2000 r (nearest r 2000) (lit< tt) (lit< tt) (short r h);
   far = λ q h. entry-nearest B.least 1 q (nearest q 1) (lit< tt) (lit< tt) (far q h);
   close = λ d h. product d h .close;
-  above = λ d h. product d h .above;
+  above = λ d h. product d (omega arith) .above;
   falls = falls;
   double = double;
   number = number;

@@ -2,10 +2,10 @@
 use mathlib.Core.Path.{_≡_, sym, ap, ap₂, _∙_, subst}
 use mathlib.Core.Bool.{Bool, true, false, not, _&&_}
 use Prim.Native.Nat.{ℕ, zero, suc, _+_, _-_, _*_, _/_, _%_, _^_, _≤_, _<_, compare, zero-le}
-use native.Mathlib.Nat.{le-trans, le-of-eq, le-of-lt, lt-of-lt-of-le, lt-of-le-of-lt, not-le-of-lt, add-mul, mul-comm, mul-assoc, mul-left-comm, mul-right-comm, mul-one, suc-mul, mul-pos, mul-le-mul-right, mul-lt-mul-of-pos-right, le-of-mul-le-mul-right, lt-of-mul-lt-mul-right, le-div-iff-mul-le, sub-add-cancel, le-add-right, zero-lt-suc, one-mul}
+use native.Mathlib.Nat.{le-trans, le-of-eq, le-of-lt, lt-of-lt-of-le, lt-of-le-of-lt, not-le-of-lt, add-mul, mul-comm, mul-assoc, mul-left-comm, mul-right-comm, mul-one, suc-mul, mul-pos, mul-le-mul-left, mul-le-mul-right, mul-lt-mul-of-pos-right, le-of-mul-le-mul-right, lt-of-mul-lt-mul-right, le-div-iff-mul-le, sub-add-cancel, le-add-right, zero-lt-suc, one-mul}
 use native.Mathlib.Omega.{arith}
 use lib.IntN.{pos, negsuc}
-use lib.Dec.{T, leb, ltb, eqb, leb→le, nleb→lt, ltb→lt}
+use lib.Dec.{T, leb, ltb, eqb, leb→le, nleb→lt, ltb→lt, lit<, lit≤}
 use lib.Pow.{pow-add, pow-pos, pow-mono, pow-lt}
 use lib.Ieee.{Float, nan, inf, fin, Format, binary64, prec, emax, low, up, down, size, round, fits}
 use lib.Ieee.Fits.{two, two-le-pos, and-l, and-r}
@@ -228,13 +228,13 @@ rounded-nearest (suc p) q x Q N r =
     record {
       up = λ y F Y l. (
         suc n,
-        under-strict (suc p) q n (num x * den y + num y * den x) (den x * den y * 2) Q (zero-lt-suc p) (mul-pos (mul-pos (den-pos x) (den-pos y)) (zero-lt-suc 1))
-            (round-up binary64 x y (bot q n) (top (suc p) q n) (top-pos (suc p) q n Q) (r .above) N (r .high) F Y l),
+        under-strict (suc p) q n (num x * den y + num y * den x) (den x * den y * 2) Q (zero-lt-suc p) (mul-pos (mul-pos (den-pos x) (den-pos y)) (lit< tt))
+            (le-trans (mul-le-mul-left (bot q n) (mul-le-mul-left (den x * den y) (lit≤ tt))) (round-up binary64 x y (bot q n) (top (suc p) q n) (top-pos (suc p) q n Q) (r .above) N (r .high) F Y l)),
       );
       down = λ y F Y l. (
         suc (suc n),
         later (suc p) q (suc n) (later (suc p) q n (r .late)),
         over-strict (suc p) q n (num x * den y + num y * den x) (den x * den y * 2) Q (zero-lt-suc p) (lt-of-lt-of-le (lt-of-le-of-lt zero-le l) (le-add-right (num x * den y) (num y * den x))) (r .late)
-            (round-down binary64 x y (bot q n) (cap (suc p) q n) (cap-pos (suc p) q n Q) (r .above) N (r .low) F Y l),
+            (le-trans (round-down binary64 x y (bot q n) (cap (suc p) q n) (cap-pos (suc p) q n Q) (r .above) N (r .low) F Y l) (mul-le-mul-left (bot q n) (mul-le-mul-left (den x * den y) (lit≤ tt)))),
       );
     }

@@ -6,6 +6,7 @@ use native.Mathlib.Nat.{le-trans, le-of-eq, le-add-right, zero-lt-suc, add-zero,
 use native.Mathlib.Omega.{arith}
 use lib.Ieee.Positive.{through}
 use Rattle.fade.specs.Exp.{top, bot, cap, Late}
+use Rattle.fading.specs.Laws.{narrowing}
 
 pub bot-pos : (q n : ℕ) → 0 < q → 0 < bot q n
 unfolding bot
@@ -92,22 +93,22 @@ top-factor k p q (suc n) =
     ∙ sym (mul-add (k ^ suc n) (top p q n * (q * suc n)) (p ^ suc n))
 
 -- ---- the enclosures narrow to one number: their width, the last term, at least halves with each term more
-half-term : (p q n : ℕ) → Late p q n → p ^ suc n * 2 * bot q n ≤ p ^ n * bot q (suc n)
+half-term : (p q n : ℕ) → Late p q n → p ^ suc n * narrowing * bot q n ≤ p ^ n * bot q (suc n)
 unfolding bot
 half-term p q n h =
-    le-trans (mul-le-mul-right (bot q n) (le-trans (le-of-eq (ap (λ (z : ℕ). z * 2) (pow-suc p n) ∙ mul-assoc (p ^ n) p 2)) (mul-le-mul-left (p ^ n) h)))
+    le-trans (mul-le-mul-right (bot q n) (le-trans (le-of-eq (ap (λ (z : ℕ). z * narrowing) (pow-suc p n) ∙ mul-assoc (p ^ n) p narrowing)) (mul-le-mul-left (p ^ n) (omega (arith, h)))))
     (le-of-eq (mul-assoc (p ^ n) (q * suc n) (bot q n) ∙ ap (λ (z : ℕ). p ^ n * z) (mul-comm (q * suc n) (bot q n))))
 
-pub narrows : (p q n k : ℕ) → 0 < q → Late p q n → p ^ (n + k) * 2 ^ k * bot q n ≤ p ^ n * bot q (n + k)
+pub narrows : (p q n k : ℕ) → 0 < q → Late p q n → p ^ (n + k) * narrowing ^ k * bot q n ≤ p ^ n * bot q (n + k)
 narrows p q n zero Q h = le-of-eq (ap (λ (z : ℕ). z * bot q n) (mul-one (p ^ (n + 0))) ∙ ap₂ (λ (y z : ℕ). p ^ y * bot q z) (add-zero n) (sym (add-zero n)))
 narrows p q n (suc k) Q h =
-    subst (λ (m : ℕ). p ^ m * 2 ^ suc k * bot q n ≤ p ^ n * bot q m) (sym (add-suc n k))
-    (through (p ^ suc (n + k) * 2 ^ suc k) (p ^ (n + k) * 2 ^ k) (p ^ n) (bot q (suc (n + k))) (bot q (n + k)) (bot q n) (bot-pos q (n + k) Q)
-    (le-trans (le-of-eq (ap (λ (z : ℕ). p ^ suc (n + k) * z * bot q (n + k)) (pow-suc 2 k) ∙ shift (p ^ suc (n + k)) (2 ^ k) (bot q (n + k))))
-    (le-trans (mul-le-mul-right (2 ^ k) (half-term p q (n + k) (late p q n k h))) (le-of-eq (mul-right-comm (p ^ (n + k)) (bot q (suc (n + k))) (2 ^ k)))))
+    subst (λ (m : ℕ). p ^ m * narrowing ^ suc k * bot q n ≤ p ^ n * bot q m) (sym (add-suc n k))
+    (through (p ^ suc (n + k) * narrowing ^ suc k) (p ^ (n + k) * narrowing ^ k) (p ^ n) (bot q (suc (n + k))) (bot q (n + k)) (bot q n) (bot-pos q (n + k) Q)
+    (le-trans (le-of-eq (ap (λ (z : ℕ). p ^ suc (n + k) * z * bot q (n + k)) (pow-suc narrowing k) ∙ shift (p ^ suc (n + k)) (narrowing ^ k) (bot q (n + k))))
+    (le-trans (mul-le-mul-right (narrowing ^ k) (half-term p q (n + k) (late p q n k h))) (le-of-eq (mul-right-comm (p ^ (n + k)) (bot q (suc (n + k))) (narrowing ^ k)))))
     (narrows p q n k Q h))
   where
-    shift : (x y b : ℕ) → x * (y * 2) * b ≡ x * 2 * b * y
+    shift : (x y b : ℕ) → x * (y * narrowing) * b ≡ x * narrowing * b * y
     shift x y b = simp (mul-assoc, mul-comm, mul-left-comm)
 
 -- ---- strictly, for a p above 0: one more term lowers bot / top, and two more raise bot / cap

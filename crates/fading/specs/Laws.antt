@@ -33,12 +33,16 @@ pub record Close (h p q : ℕ) (z : Float) : Type 0 where
 abbrev pub parts : ℕ
 parts = 2 ^ 51
 
+-- with each term more the width of a late enclosure falls to one part in 2, or below
+abbrev pub narrowing : ℕ
+narrowing = 2
+
 -- ---- the laws
 
 -- the sums enclose one number: each sum top / bot is at most each late cap / bot, and the width of a late enclosure, its last term, at least halves with each term more
 pub record Series : Type 0 where
   pub encloses : (p q n m : ℕ) → 0 < q → Late p q n → top p q m * bot q n ≤ cap p q n * bot q m
-  pub narrows : (p q n k : ℕ) → 0 < q → Late p q n → p ^ (n + k) * 2 ^ k * bot q n ≤ p ^ n * bot q (n + k)
+  pub narrows : (p q n k : ℕ) → 0 < q → Late p q n → p ^ (n + k) * narrowing ^ k * bot q n ≤ p ^ n * bot q (n + k)
 
 -- each double that the fade multiplies is the nearest; the fade is within 2 ^ -51, relatively, of exp(-d / 2000), and positive, up to the end; it falls strictly,
 -- also at the step to 0; and it is always a double and never a not-a-number

@@ -25,6 +25,7 @@ use Rattle.head.specs.declared.Done.the-variants as done
 use Rattle.fair.specs.Given as shed
 use Rattle.fair.specs.Given.{Memory, memory}
 use Rattle.fair.specs.Runs.{sum, highest, lowest, clock, back, Each}
+use Rattle.fair.specs.Bounds.{most-depth, least-depth, parts}
 use Rattle.fair.specs.Tokens.{burst}
 use Rattle.fair.specs.Demand as demand
 use Rattle.fair.specs.Demand.{verdict-here, is-admitted}
@@ -318,8 +319,8 @@ module _ (room : ℕ) (rate ceiling : List ℕ) (rates : shed.all-rates rate ≡
     the-claim = store-claim Name same same-is same-self shares room (by-dim rate) (by-dim ceiling) (bounded-rates rate rates)
 
     relay : (h : List Call) (d : ℕ) → d < dims → (k : ℕ)
-        → 256000 * sum (calls.by (calls.admitted d)) (suc k) (es h)
-        ≤ 256000 * burst (getD rate d 0) (getD ceiling d 0) + 256 * (getD rate d 0 * calls.span (es h) k) + 256000 * sum (calls.by (calls.handed d)) (suc k) (es h) + 1000 * suc k
+        → 1000 * parts * sum (calls.by (calls.admitted d)) (suc k) (es h)
+        ≤ 1000 * parts * burst (getD rate d 0) (getD ceiling d 0) + parts * (getD rate d 0 * calls.span (es h) k) + 1000 * parts * sum (calls.by (calls.handed d)) (suc k) (es h) + 1000 * suc k
     relay h d small k =
         let a = whole h .along in
         rw (
@@ -331,8 +332,8 @@ module _ (room : ℕ) (rate ceiling : List ℕ) (rates : shed.all-rates rate ≡
         (the-claim .relay (shown seen (es h)) (lawful-all (es h) a) d small k)
 
     share : (r : Key) (h : List Call) (d : ℕ) → d < dims → (k : ℕ)
-        → 256000 * sum (calls.by (calls.admitted-on r d)) (suc k) (es h) * power 1074
-        ≤ 256 * ((4000 + calls.span (es h) k) * highest (calls.by (calls.fill-on r d)) (suc k) (es h)) + (256000 * sum (calls.by (calls.handed-on r d)) (suc k) (es h) + 1000 * suc k) * power 1074
+        → 1000 * parts * sum (calls.by (calls.admitted-on r d)) (suc k) (es h) * power 1074
+        ≤ parts * ((most-depth + calls.span (es h) k) * highest (calls.by (calls.fill-on r d)) (suc k) (es h)) + (1000 * parts * sum (calls.by (calls.handed-on r d)) (suc k) (es h) + 1000 * suc k) * power 1074
     share r h d small k =
         let a = whole h .along in
         rw (
@@ -347,12 +348,12 @@ module _ (room : ℕ) (rate ceiling : List ℕ) (rates : shed.all-rates rate ≡
     -- ---- no over share: what holds of the real runs holds of the model's
     unfoldable Modest : Key → ℕ → List Event → Type 0
     Modest r d x = (k : ℕ) → calls.Present r k x
-        → (256000 * sum (calls.by (calls.tried-on r d)) (suc k) x + 1000 * suc k) * power 1074 ≤ 256 * ((4000 + calls.span x k) * lowest (calls.by (calls.judged-on r)) (calls.by (calls.fill-on r d)) k x)
+        → (1000 * parts * sum (calls.by (calls.tried-on r d)) (suc k) x + 1000 * suc k) * power 1074 ≤ parts * ((least-depth + calls.span x k) * lowest (calls.by (calls.judged-on r)) (calls.by (calls.fill-on r d)) k x)
 
     unfoldable ModelModest : K → ℕ → List C → Type 0
     ModelModest r d x = (k : ℕ) → model.Present Name same shares room (by-dim rate) (by-dim ceiling) r k x
-        → (256000 * sum (model.tried-on Name same shares room (by-dim rate) (by-dim ceiling) r d) (suc k) x + 1000 * suc k) * power 1074
-        ≤ 256 * ((4000 + model.span Name same shares room x k) * lowest (model.judged-on Name same shares room (by-dim rate) (by-dim ceiling) r) (model.fill-on Name same shares room (by-dim rate) (by-dim ceiling) r d) k x)
+        → (1000 * parts * sum (model.tried-on Name same shares room (by-dim rate) (by-dim ceiling) r d) (suc k) x + 1000 * suc k) * power 1074
+        ≤ parts * ((least-depth + model.span Name same shares room x k) * lowest (model.judged-on Name same shares room (by-dim rate) (by-dim ceiling) r) (model.fill-on Name same shares room (by-dim rate) (by-dim ceiling) r d) k x)
 
     there-same : (r : Key) (e : Event) (x : List Event) → Fit e x → calls.present-after r (e ∷ x) ≡ demand.there (model.look Name same shares room (lift r) (store-of (seen e x ∷ shown seen x)))
     there-same r e x p = present-same r (calls.after e) (seen e x ∷ shown seen x) (step-tied (e .before) (shown seen x) (p .tie) (e .call) (p .ok))

@@ -18,6 +18,7 @@ use Rattle.flow.specs.Flow.{dims, one, nothing, whole, at}
 use Rattle.verdict.specs.Verdict.{pick}
 use Rattle.flow.proofs.Parts.{upto-length, each-at, all-at, all-of}
 use Rattle.fair.specs.Runs.{sum, highest, lowest, clock, back, Each}
+use Rattle.fair.specs.Bounds.{stale-after, most-depth, least-depth, parts}
 use Rattle.fair.specs.Tokens as tokens
 use Rattle.fair.specs.Credit as credit
 use Rattle.fair.specs.Demand as demand
@@ -146,7 +147,7 @@ module _ (rate ceiling : ℕ → ℕ) (overflow : Bool) (d : ℕ) (small : d < d
   tokens-back k h = tokens-clock (back k h) ∙ ap (clock tokens.stamp) (back-shown see-tokens k h)
 
   pub relay : (1 ≤ rate d) × (rate d ≤ 2 ^ 40) → (h : List Deed) → Each Lawful h → (k : ℕ)
-      → 256000 * sum (demand.admitted rate ceiling overflow d) (suc k) h ≤ 256000 * tokens.burst (rate d) (ceiling d) + 256 * (rate d * span h k) + 256000 * sum (demand.handed d) (suc k) h + 1000 * suc k
+      → 1000 * parts * sum (demand.admitted rate ceiling overflow d) (suc k) h ≤ 1000 * parts * tokens.burst (rate d) (ceiling d) + parts * (rate d * span h k) + 1000 * parts * sum (demand.handed d) (suc k) h + 1000 * suc k
   relay r h l k =
       rw (
         sum-shown see-tokens (demand.admitted rate ceiling overflow d) (tokens.admitted (rate d) (ceiling d)) admitted-same (suc k) h,
@@ -206,7 +207,7 @@ module _ (rate ceiling : ℕ → ℕ) (overflow : Bool) (d : ℕ) (small : d < d
 
   dropped-shaped : (drops : Bool) (k : Kept) (now : ℕ) → Shaped k → Shaped (demand.dropped drops k now)
   dropped-shaped true absent now s = tt
-  dropped-shaped true (present u) now s = go (ltb (u .«at_ms» + 8000) now)
+  dropped-shaped true (present u) now s = go (ltb (u .«at_ms» + stale-after) now)
     where
       go : (b : Bool) → Shaped (demand.aged b u)
       go true = tt
@@ -268,7 +269,7 @@ module _ (rate ceiling : ℕ → ℕ) (overflow : Bool) (d : ℕ) (small : d < d
 
   dropped-same : (drops : Bool) (k : Kept) (now : ℕ) → credit.dropped drops (view k) now ≡ view (demand.dropped drops k now)
   dropped-same true absent now = refl
-  dropped-same true (present u) now = go (ltb (u .«at_ms» + 8000) now)
+  dropped-same true (present u) now = go (ltb (u .«at_ms» + stale-after) now)
     where
       go : (b : Bool) → credit.aged b (held u) ≡ view (demand.aged b u)
       go true = refl
@@ -366,8 +367,8 @@ module _ (rate ceiling : ℕ → ℕ) (overflow : Bool) (d : ℕ) (small : d < d
   there-same h = there-view (state rate ceiling overflow h .used) ∙ ap (λ (x : credit.Place). credit.there x) (sym (place-same h))
 
   pub share : (h : List Deed) → Each Lawful h → (k : ℕ)
-      → 256000 * sum (demand.admitted-here rate ceiling overflow d) (suc k) h * power 1074
-      ≤ 256 * ((4000 + span h k) * highest (demand.fill-here d) (suc k) h) + (256000 * sum (demand.handed-here d) (suc k) h + 1000 * suc k) * power 1074
+      → 1000 * parts * sum (demand.admitted-here rate ceiling overflow d) (suc k) h * power 1074
+      ≤ parts * ((most-depth + span h k) * highest (demand.fill-here d) (suc k) h) + (1000 * parts * sum (demand.handed-here d) (suc k) h + 1000 * suc k) * power 1074
   share h l k =
       rw (
         sum-shown see-credit (demand.admitted-here rate ceiling overflow d) (credit.admitted overflow) admitted-here-same (suc k) h,
@@ -380,7 +381,7 @@ module _ (rate ceiling : ℕ → ℕ) (overflow : Bool) (d : ℕ) (small : d < d
 
   pub credit-suffices : (h : List Deed) → Each Lawful h → (b : Batch) (fill : List Float) → Lawful (Here b fill)
       → ((k : ℕ) → demand.Present rate ceiling overflow k (Here b fill ∷ h)
-      → (256000 * sum (demand.tried-here d) (suc k) (Here b fill ∷ h) + 1000 * suc k) * power 1074 ≤ 256 * ((4000 + span (Here b fill ∷ h) k) * lowest demand.here (demand.fill-here d) k (Here b fill ∷ h)))
+      → (1000 * parts * sum (demand.tried-here d) (suc k) (Here b fill ∷ h) + 1000 * suc k) * power 1074 ≤ parts * ((least-depth + span (Here b fill ∷ h) k) * lowest demand.here (demand.fill-here d) k (Here b fill ∷ h)))
       → Ieee.le (at (priced (b .cost)) d) (at (credited (state rate ceiling overflow h) (clock stamp h) b fill .credit) d) ≡ true
   unfolding shown see-credit
   credit-suffices h l b fill law modest =

@@ -14,6 +14,7 @@ use Rattle.verdict.specs.declared.Verdict.the-variants.{OverShare}
 use Rattle.flow.specs.Flow as flow
 use Rattle.flow.specs.Flow.{dims, one, at}
 use Rattle.fair.specs.Runs.{sum, highest, lowest, clock, back, Each}
+use Rattle.fair.specs.Bounds.{most-depth, least-depth, parts}
 use Rattle.fair.specs.Tokens.{burst}
 use Rattle.fair.specs.Demand as demand
 use Rattle.fair.specs.Demand.{Batch, Deed, Here, There, CutThere, Idle, Kept, absent, present, State, does, verdict-here, verdict-there, credit-holds, is-admitted, settled, credited, priced, state}
@@ -371,12 +372,12 @@ module _ (Name : Type 0) (same : Name → Name → Bool) (is : (u v : Name) → 
       -- what the hypothesis on modest runs says of the record's own history
       Modest : ℕ → List Deed → Type 0
       Modest d g = (k : ℕ) → demand.Present rate ceiling (is-shared r) k g
-          → (256000 * sum (demand.tried-here d) (suc k) g + 1000 * suc k) * power 1074 ≤ 256 * ((4000 + (clock demand.stamp g - clock demand.stamp (back k g))) * lowest demand.here (demand.fill-here d) k g)
+          → (1000 * parts * sum (demand.tried-here d) (suc k) g + 1000 * suc k) * power 1074 ≤ parts * ((least-depth + (clock demand.stamp g - clock demand.stamp (back k g))) * lowest demand.here (demand.fill-here d) k g)
 
       modest-same : (d : ℕ) (h : List C)
           → ((k : ℕ) → shed.Present Name same shares room rate ceiling r k h
-          → (256000 * sum (shed.tried-on Name same shares room rate ceiling r d) (suc k) h + 1000 * suc k) * power 1074
-          ≤ 256 * ((4000 + shed.span Name same shares room h k) * lowest (shed.judged-on Name same shares room rate ceiling r) (shed.fill-on Name same shares room rate ceiling r d) k h))
+          → (1000 * parts * sum (shed.tried-on Name same shares room rate ceiling r d) (suc k) h + 1000 * suc k) * power 1074
+          ≤ parts * ((least-depth + shed.span Name same shares room h k) * lowest (shed.judged-on Name same shares room rate ceiling r) (shed.fill-on Name same shares room rate ceiling r d) k h))
           → Modest d (shown see h)
       unfolding Modest
       modest-same d h f k p =
@@ -391,8 +392,8 @@ module _ (Name : Type 0) (same : Name → Name → Bool) (is : (u v : Name) → 
     -- ---- the demand
     module _ (rates : (d : ℕ) → d < dims → (1 ≤ rate d) × (rate d ≤ 2 ^ 40)) where
       pub relay : (h : List C) → Each (shed.Lawful Name same shares room) h → (d : ℕ) → d < dims → (k : ℕ)
-          → 256000 * sum (shed.admitted Name same shares room rate ceiling d) (suc k) h
-          ≤ 256000 * burst (rate d) (ceiling d) + 256 * (rate d * shed.span Name same shares room h k) + 256000 * sum (shed.handed Name same shares room d) (suc k) h + 1000 * suc k
+          → 1000 * parts * sum (shed.admitted Name same shares room rate ceiling d) (suc k) h
+          ≤ 1000 * parts * burst (rate d) (ceiling d) + parts * (rate d * shed.span Name same shares room h k) + 1000 * parts * sum (shed.handed Name same shares room d) (suc k) h + 1000 * suc k
       relay h l d small k =
           rw (
             sum-shown (see shared) (shed.admitted Name same shares room rate ceiling d) (demand.admitted rate ceiling true d) (admitted-same shared d) (suc k) h,
@@ -403,8 +404,8 @@ module _ (Name : Type 0) (same : Name → Name → Bool) (is : (u v : Name) → 
           (demand-three rate ceiling rates true .relay (shown (see shared) h) (lawful-all shared h l) d small k)
 
       pub share : (r : K) (h : List C) → Each (shed.Lawful Name same shares room) h → (d : ℕ) → d < dims → (k : ℕ)
-          → 256000 * sum (shed.admitted-on Name same shares room rate ceiling r d) (suc k) h * power 1074
-          ≤ 256 * ((4000 + shed.span Name same shares room h k) * highest (shed.fill-on Name same shares room rate ceiling r d) (suc k) h) + (256000 * sum (shed.handed-on Name same shares room rate ceiling r d) (suc k) h + 1000 * suc k) * power 1074
+          → 1000 * parts * sum (shed.admitted-on Name same shares room rate ceiling r d) (suc k) h * power 1074
+          ≤ parts * ((most-depth + shed.span Name same shares room h k) * highest (shed.fill-on Name same shares room rate ceiling r d) (suc k) h) + (1000 * parts * sum (shed.handed-on Name same shares room rate ceiling r d) (suc k) h + 1000 * suc k) * power 1074
       share r h l d small k =
           rw (
             sum-shown (see r) (shed.admitted-on Name same shares room rate ceiling r d) (demand.admitted-here rate ceiling (is-shared r) d) (admitted-on-same r d) (suc k) h,
@@ -417,8 +418,8 @@ module _ (Name : Type 0) (same : Name → Name → Bool) (is : (u v : Name) → 
 
       pub spared : (u : Name) (b : Batch) (fill : List Float) (scanned : R → Bool) (h : List C) → Each (shed.Lawful Name same shares room) h → shed.Lawful Name same shares room (Judge u b fill scanned) → T (Ieee.le (b .want) one)
           → ((d : ℕ) → d < dims → (k : ℕ) → shed.Present Name same shares room rate ceiling (resolve (store h) u) k (Judge u b fill scanned ∷ h)
-          → (256000 * sum (shed.tried-on Name same shares room rate ceiling (resolve (store h) u) d) (suc k) (Judge u b fill scanned ∷ h) + 1000 * suc k) * power 1074
-          ≤ 256 * ((4000 + shed.span Name same shares room (Judge u b fill scanned ∷ h) k) * lowest (shed.judged-on Name same shares room rate ceiling (resolve (store h) u)) (shed.fill-on Name same shares room rate ceiling (resolve (store h) u) d) k (Judge u b fill scanned ∷ h)))
+          → (1000 * parts * sum (shed.tried-on Name same shares room rate ceiling (resolve (store h) u) d) (suc k) (Judge u b fill scanned ∷ h) + 1000 * suc k) * power 1074
+          ≤ parts * ((least-depth + shed.span Name same shares room (Judge u b fill scanned ∷ h) k) * lowest (shed.judged-on Name same shares room rate ceiling (resolve (store h) u)) (shed.fill-on Name same shares room rate ceiling (resolve (store h) u) d) k (Judge u b fill scanned ∷ h)))
           → verdict-here (seen (resolve (store h) u) (store h)) (clock stamp h) b fill ≡ OverShare → ⊥
       unfolding Modest
       spared u b fill scanned h l law want modest e =

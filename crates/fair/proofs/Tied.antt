@@ -29,6 +29,7 @@ use Rattle.fair.proofs.Sweep.{Wide}
 use Rattle.fair.proofs.Back.{Whole}
 use Rattle.fair.proofs.Entry as entry
 use Rattle.fair.proofs.Entry.{Held}
+use Rattle.fair.specs.Bounds.{stale-after}
 
 -- ---- sweeps of a list
 module _ (room : ℕ) where
@@ -213,19 +214,19 @@ module _ (room : ℕ) where
         re-rows _ _ (swept (once-more (v .head)) (swept (view.stale room (h .scan .next) (h .scan .«at_ms»)) st)) clk _ (sweep-twice (view.stale room (h .scan .next) (h .scan .«at_ms»)) (once-more (v .head)) (st .rows)) w
 
     -- what it drops is old by the clock
-    stale-old : (table a clk : ℕ) → a ≤ clk → (r : R′) → view.stale room table a r ≡ true → ltb (r .used .«at_ms» + 8000) clk ≡ true
+    stale-old : (table a clk : ℕ) → a ≤ clk → (r : R′) → view.stale room table a r ≡ true → ltb (r .used .«at_ms» + stale-after) clk ≡ true
     stale-old table a clk l r e = go (eqb (sender.table-of-tag (r .name .name .tag)) table) e
       where
-        go : (c : Bool) → cond c (ltb 8000 (a - r .used .«at_ms»)) false ≡ true → ltb (r .used .«at_ms» + 8000) clk ≡ true
-        go true e = lt-ltb (r .used .«at_ms» + 8000) clk (omega (arith, ltb-true 8000 (a - r .used .«at_ms») e))
+        go : (c : Bool) → cond c (ltb 8000 (a - r .used .«at_ms»)) false ≡ true → ltb (r .used .«at_ms» + stale-after) clk ≡ true
+        go true e = lt-ltb (r .used .«at_ms» + stale-after) clk (omega (arith, ltb-true 8000 (a - r .used .«at_ms») e))
         go false e = absurd (true≢false (sym e))
 
-    came-old : (b : Shedder) (clk : ℕ) → b .scan .«at_ms» ≤ clk → (r : R′) → came-from b r ≡ came-from b r && ltb (r .used .«at_ms» + 8000) clk
+    came-old : (b : Shedder) (clk : ℕ) → b .scan .«at_ms» ≤ clk → (r : R′) → came-from b r ≡ came-from b r && ltb (r .used .«at_ms» + stale-after) clk
     came-old b clk l r = go (leb 1 (b .scan .remaining)) (view.stale room (b .scan .next) (b .scan .«at_ms») r) (leb 1 (b .scan .remaining - 1)) (view.stale room (b .scan .next + 1) (b .scan .«at_ms») r)
         (stale-old (b .scan .next) (b .scan .«at_ms») clk l r) (stale-old (b .scan .next + 1) (b .scan .«at_ms») clk l r)
       where
-        go : (c p d q : Bool) → (p ≡ true → ltb (r .used .«at_ms» + 8000) clk ≡ true) → (q ≡ true → ltb (r .used .«at_ms» + 8000) clk ≡ true)
-            → cond c (shed.or p (cond d q false)) false ≡ cond c (shed.or p (cond d q false)) false && ltb (r .used .«at_ms» + 8000) clk
+        go : (c p d q : Bool) → (p ≡ true → ltb (r .used .«at_ms» + stale-after) clk ≡ true) → (q ≡ true → ltb (r .used .«at_ms» + stale-after) clk ≡ true)
+            → cond c (shed.or p (cond d q false)) false ≡ cond c (shed.or p (cond d q false)) false && ltb (r .used .«at_ms» + stale-after) clk
         go false p d q f g = refl
         go true true d q f g = sym (f refl)
         go true false false q f g = refl

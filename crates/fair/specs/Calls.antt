@@ -29,6 +29,7 @@ use Rattle.report.specs.Report.{report-asked}
 use Rattle.fair.specs.Given as shed
 use Rattle.fair.specs.Given.{Memory, memory}
 use Rattle.fair.specs.Runs.{sum, highest, lowest, Since, clock, back}
+use Rattle.fair.specs.Bounds.{most-depth, least-depth, parts}
 use Rattle.fair.specs.Tokens.{burst}
 
 -- ---- calls
@@ -261,18 +262,18 @@ pub record Valued (x : Float) : Type 0 where
 pub record Demand (rate ceiling : List ℕ) (first : State) : Type 0 where
   -- admitted cost ≤ burst + rate * T + handed back + n / 256
   pub relay : (h : List Call) (d : ℕ) → d < dims → (k : ℕ)
-      → 256000 * sum (by (admitted d)) (suc k) (events first h)
-      ≤ 256000 * burst (getD rate d 0) (getD ceiling d 0) + 256 * (getD rate d 0 * span (events first h) k) + 256000 * sum (by (handed d)) (suc k) (events first h) + 1000 * suc k
+      → 1000 * parts * sum (by (admitted d)) (suc k) (events first h)
+      ≤ 1000 * parts * burst (getD rate d 0) (getD ceiling d 0) + parts * (getD rate d 0 * span (events first h) k) + 1000 * parts * sum (by (handed d)) (suc k) (events first h) + 1000 * suc k
   -- for each record: admitted cost on it ≤ (4 + T) * its highest fill + its hand-backs + n / 256
   pub share : (r : Key) (h : List Call) (d : ℕ) → d < dims → (k : ℕ)
-      → 256000 * sum (by (admitted-on r d)) (suc k) (events first h) * power 1074
-      ≤ 256 * ((4000 + span (events first h) k) * highest (by (fill-on r d)) (suc k) (events first h)) + (256000 * sum (by (handed-on r d)) (suc k) (events first h) + 1000 * suc k) * power 1074
+      → 1000 * parts * sum (by (admitted-on r d)) (suc k) (events first h) * power 1074
+      ≤ parts * ((most-depth + span (events first h) k) * highest (by (fill-on r d)) (suc k) (events first h)) + (1000 * parts * sum (by (handed-on r d)) (suc k) (events first h) + 1000 * suc k) * power 1074
   -- "A sender's want is within the level when the verdict takes it by the rule "want up to 1"": such a batch is not answered OverShare, if in each dimension and every run
   -- from a judgement of its present record to this batch: cost tried ≤ (4 + T) * the record's lowest fill - n / 256
   pub spared : (h : List Call) (u : unit.Unit) (cost : List ℕ) (t : ℕ) → refused (state first h) (Judge u cost t) ≡ false → T (Ieee.le (want (state first h) u cost t) one)
       → ((d : ℕ) → d < dims → (k : ℕ) → Present (key (state first h) u (now (state first h) t)) k (events first (Judge u cost t ∷ h))
-      → (256000 * sum (by (tried-on (key (state first h) u (now (state first h) t)) d)) (suc k) (events first (Judge u cost t ∷ h)) + 1000 * suc k) * power 1074
-      ≤ 256 * ((4000 + span (events first (Judge u cost t ∷ h)) k)
+      → (1000 * parts * sum (by (tried-on (key (state first h) u (now (state first h) t)) d)) (suc k) (events first (Judge u cost t ∷ h)) + 1000 * suc k) * power 1074
+      ≤ parts * ((least-depth + span (events first (Judge u cost t ∷ h)) k)
       * lowest (by (judged-on (key (state first h) u (now (state first h) t)))) (by (fill-on (key (state first h) u (now (state first h) t)) d)) k (events first (Judge u cost t ∷ h))))
       → judges (state first h) u cost t .answer ≡ answer.OverShare → ⊥
   -- "a fill counts at its double's exact value": whatever calls were made, each fill has one

@@ -21,6 +21,7 @@ use Rattle.flow.specs.Flow as flow
 use Rattle.verdict.specs.Verdict as verdicts
 use Rattle.flow.specs.Flow.{dims, one, nothing, whole, at, each, all}
 use Rattle.fair.specs.Runs.{sum, highest, lowest, Since, clock, back, Each}
+use Rattle.fair.specs.Bounds.{stale-after, most-depth, least-depth, parts}
 use Rattle.fair.specs.Tokens.{burst, paid}
 
 -- ---- calls
@@ -108,7 +109,7 @@ aged false u = present u
 
 abbrev pub dropped : Bool → Kept → ℕ → Kept
 dropped true absent now = absent
-dropped true (present u) now = aged (ltb (u .«at_ms» + 8000) now) u
+dropped true (present u) now = aged (ltb (u .«at_ms» + stale-after) now) u
 dropped false k now = k
 
 abbrev pub does : State → ℕ → Deed → State
@@ -204,14 +205,14 @@ module _ (rate ceiling : ℕ → ℕ) (overflow : Bool) where
   pub record Demand : Type 0 where
     -- admitted ≤ burst + rate * T + handed back + n / 256, times 256000
     pub relay : (h : List Deed) → Each Lawful h → (d : ℕ) → d < dims → (k : ℕ)
-        → 256000 * sum (admitted d) (suc k) h ≤ 256000 * burst (rate d) (ceiling d) + 256 * (rate d * span h k) + 256000 * sum (handed d) (suc k) h + 1000 * suc k
+        → 1000 * parts * sum (admitted d) (suc k) h ≤ 1000 * parts * burst (rate d) (ceiling d) + parts * (rate d * span h k) + 1000 * parts * sum (handed d) (suc k) h + 1000 * suc k
     -- admitted on the record ≤ (4 + T) * its highest fill + its hand-backs + n / 256, times 256000 * 2 ^ 1074
     pub share : (h : List Deed) → Each Lawful h → (d : ℕ) → d < dims → (k : ℕ)
-        → 256000 * sum (admitted-here d) (suc k) h * power 1074 ≤ 256 * ((4000 + span h k) * highest (fill-here d) (suc k) h) + (256000 * sum (handed-here d) (suc k) h + 1000 * suc k) * power 1074
+        → 1000 * parts * sum (admitted-here d) (suc k) h * power 1074 ≤ parts * ((most-depth + span h k) * highest (fill-here d) (suc k) h) + (1000 * parts * sum (handed-here d) (suc k) h + 1000 * suc k) * power 1074
     -- a sender whose want is within the level is not called over share, if in each dimension and every run from a judgement of the present record to this batch: tried ≤ (4 + T) * lowest fill - n / 256
     pub spared : (h : List Deed) → Each Lawful h → (b : Batch) (fill : List Float) → Lawful (Here b fill) → T (Ieee.le (b .want) one)
         → ((d : ℕ) → d < dims → (k : ℕ) → Present k (Here b fill ∷ h)
-        → (256000 * sum (tried-here d) (suc k) (Here b fill ∷ h) + 1000 * suc k) * power 1074 ≤ 256 * ((4000 + span (Here b fill ∷ h) k) * lowest here (fill-here d) k (Here b fill ∷ h)))
+        → (1000 * parts * sum (tried-here d) (suc k) (Here b fill ∷ h) + 1000 * suc k) * power 1074 ≤ parts * ((least-depth + span (Here b fill ∷ h) k) * lowest here (fill-here d) k (Here b fill ∷ h)))
         → verdict-here (state h) (clock stamp h) b fill ≡ OverShare → ⊥
 
 -- at rates from 1 to 2 ^ 40, for any ceiling, and for a sender's record as for overflow's

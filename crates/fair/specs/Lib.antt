@@ -1,4 +1,5 @@
 pub mod Runs
+pub mod Bounds
 pub mod Tokens
 pub mod Credit
 pub mod Demand

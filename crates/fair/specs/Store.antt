@@ -16,6 +16,7 @@ use Rattle.verdict.specs.declared.Verdict.the-variants.{OverShare}
 use Rattle.flow.specs.Flow as flow
 use Rattle.flow.specs.Flow.{dims, one, at}
 use Rattle.fair.specs.Runs.{sum, highest, lowest, Since, clock, back, Each}
+use Rattle.fair.specs.Bounds.{stale-after, most-depth, least-depth, parts}
 use Rattle.fair.specs.Tokens.{burst}
 use Rattle.fair.specs.Demand as demand
 use Rattle.fair.specs.Demand.{Batch, Here, Kept, absent, present, State, does, verdict-here, is-admitted, Small}
@@ -96,7 +97,7 @@ module _ (Name : Type 0) (same : Name → Name → Bool) (shares : Name → Bool
   -- ---- steps
   -- the scan comes by, and the row is more than 8 s old
   abbrev pub stale : (Row → Bool) → ℕ → Row → Bool
-  stale scanned now r = scanned r && ltb (r .used .«at_ms» + 8000) now
+  stale scanned now r = scanned r && ltb (r .used .«at_ms» + stale-after) now
 
   abbrev pub after : Key → State → Store → Store
   after k t s = record { bucket = t .bucket; rows = rows-with k (t .used) (s .rows); overflow = overflow-with k (t .used) (s .overflow) }
@@ -177,15 +178,15 @@ module _ (Name : Type 0) (same : Name → Name → Bool) (shares : Name → Bool
     pub record Demand : Type 0 where
       -- admitted ≤ burst + rate * T + handed back + n / 256, times 256000
       pub relay : (h : List Call) → Each Lawful h → (d : ℕ) → d < dims → (k : ℕ)
-          → 256000 * sum (admitted d) (suc k) h ≤ 256000 * burst (rate d) (ceiling d) + 256 * (rate d * span h k) + 256000 * sum (handed d) (suc k) h + 1000 * suc k
+          → 1000 * parts * sum (admitted d) (suc k) h ≤ 1000 * parts * burst (rate d) (ceiling d) + parts * (rate d * span h k) + 1000 * parts * sum (handed d) (suc k) h + 1000 * suc k
       -- for each record: admitted on it ≤ (4 + T) * its highest fill + its hand-backs + n / 256, times 256000 * 2 ^ 1074
       pub share : (r : Key) (h : List Call) → Each Lawful h → (d : ℕ) → d < dims → (k : ℕ)
-          → 256000 * sum (admitted-on r d) (suc k) h * power 1074 ≤ 256 * ((4000 + span h k) * highest (fill-on r d) (suc k) h) + (256000 * sum (handed-on r d) (suc k) h + 1000 * suc k) * power 1074
+          → 1000 * parts * sum (admitted-on r d) (suc k) h * power 1074 ≤ parts * ((most-depth + span h k) * highest (fill-on r d) (suc k) h) + (1000 * parts * sum (handed-on r d) (suc k) h + 1000 * suc k) * power 1074
       -- a sender whose want is within the level is not called over share, if in each dimension and every run from a judgement of its present record to this batch: tried on it ≤ (4 + T) * its lowest fill - n / 256
       pub spared : (u : Name) (b : Batch) (fill : List Float) (scanned : Row → Bool) (h : List Call) → Each Lawful h → Lawful (Judge u b fill scanned) → T (Ieee.le (b .want) one)
           → ((d : ℕ) → d < dims → (k : ℕ) → Present (key u h) k (Judge u b fill scanned ∷ h)
-          → (256000 * sum (tried-on (key u h) d) (suc k) (Judge u b fill scanned ∷ h) + 1000 * suc k) * power 1074
-          ≤ 256 * ((4000 + span (Judge u b fill scanned ∷ h) k) * lowest (judged-on (key u h)) (fill-on (key u h) d) k (Judge u b fill scanned ∷ h)))
+          → (1000 * parts * sum (tried-on (key u h) d) (suc k) (Judge u b fill scanned ∷ h) + 1000 * suc k) * power 1074
+          ≤ parts * ((least-depth + span (Judge u b fill scanned ∷ h) k) * lowest (judged-on (key u h)) (fill-on (key u h) d) k (Judge u b fill scanned ∷ h)))
           → verdict u b fill h ≡ OverShare → ⊥
 
 -- for any names, any room, and any ceiling, at rates from 1 to 2 ^ 40
