@@ -12,7 +12,7 @@ use lib.Seq.{getD-set-same, getD-set-other}
 use borrow.Author.Tests.{lt-ltb, le-ltb, eq-eqb, ne-eqb}
 use Rattle.store.proofs.Places.{put-there}
 use Rattle.counted.specs.Sorted.{one-if, sorted, below}
-use Rattle.counted.specs.Counted.{Sources, sources, choose, either, counted-row, total, total-at, totals, keep-from, free, prune, prune-one, pruned, tag-moved, prune-tags, pruned-tags}
+use Rattle.counted.specs.Counted.{Sources, sources, choose, either, row-put, total, total-at, totals, keep-from, free, prune, prune-one, pruned, tag-put, tag-moved, prune-tags, pruned-tags}
 use Rattle.counted.specs.Laws.{times, Sorts, at-quarter, Source, source-at, listed, zero-bits, sum, keep, above, Leaves, Prunes}
 use Rattle.counted.proofs.Sorted.{below-sorted, sorted-entries}
 use Rattle.counted.proofs.Pruning.{totals-next, prune-none, prune-next}
@@ -115,22 +115,16 @@ module _ (tags : List ℕ) (rows : List (List ℕ)) (n : ℕ) (ht : n < length t
   freed-zero = simp getD-set-same
 
   module _ (c : ℕ) where
-    abbrev moved-tags : List ℕ
-    moved-tags = set (set tags n 0) c (getD tags n 0)
+    moved-other : (j : ℕ) → (j ≡ n → ⊥) → (j ≡ c → ⊥) → source-at (tag-put tags n c) (row-put rows n c) j ≡ source-at tags rows j
+    moved-other j h l = source-same (tag-put tags n c) tags (row-put rows n c) rows j j (simp getD-set-other) (simp getD-set-other)
 
-    abbrev moved-rows : List (List ℕ)
-    moved-rows = set (set rows n free) c (counted-row rows n)
-
-    moved-other : (j : ℕ) → (j ≡ n → ⊥) → (j ≡ c → ⊥) → source-at moved-tags moved-rows j ≡ source-at tags rows j
-    moved-other j h l = source-same moved-tags tags moved-rows rows j j (simp getD-set-other) (simp getD-set-other)
-
-    moved-there : c ≤ n → source-at moved-tags moved-rows c ≡ source-at tags rows n
+    moved-there : c ≤ n → source-at (tag-put tags n c) (row-put rows n c) c ≡ source-at tags rows n
     moved-there h =
         let a : c < length tags = omega arith in
         let b : c < length rows = omega arith in
-        source-same moved-tags tags moved-rows rows c n (rw put-there) (rw put-there)
+        source-same (tag-put tags n c) tags (row-put rows n c) rows c n (rw put-there) (rw put-there)
 
-    moved-zero : (n ≡ c → ⊥) → source-at moved-tags moved-rows n ≡ zero-bits
+    moved-zero : (n ≡ c → ⊥) → source-at (tag-put tags n c) (row-put rows n c) n ≡ zero-bits
     unfolding source-at zero-bits
     moved-zero h = simp (getD-set-other, getD-set-same)
 
@@ -181,26 +175,26 @@ module _ (tags : List ℕ) (rows : List (List ℕ)) (k : ℕ) where
     }
 
     abbrev next-tags : List ℕ
-    next-tags = moved-tags ts (s .rows) n ht′ hr′ (s .count)
+    next-tags = tag-put ts n (s .count)
 
     abbrev next-rows : List (List ℕ)
-    next-rows = moved-rows ts (s .rows) n ht′ hr′ (s .count)
+    next-rows = row-put (s .rows) n (s .count)
 
     step-moved : ltb k (sum (source-at tags rows n)) ≡ true → Passed (n + 1) (sources (s .count + 1) next-rows) next-tags
     step-moved e = record {
       few = omega (arith, w .few);
-      rows-long = length-set (set (s .rows) n free) (s .count) (counted-row (s .rows) n) ∙ length-set (s .rows) n free ∙ w .rows-long;
-      tags-long = length-set (set ts n 0) (s .count) (getD ts n 0) ∙ length-set ts n 0 ∙ w .tags-long;
+      rows-long = simp length-set (w .rows-long);
+      tags-long = simp length-set (w .tags-long);
       beyond = λ j h. moved-other ts (s .rows) n ht′ hr′ (s .count) j (λ q. absurd (omega arith)) (λ q. absurd (omega (arith, w .few))) ∙ w .beyond j (omega arith);
       zeroed = λ j h l. elim (ℕ-discrete j n) [
         | yes q ↦ ap (source-at next-tags next-rows) q ∙ moved-zero ts (s .rows) n ht′ hr′ (s .count) (λ x. absurd (omega arith))
         | no q ↦ moved-other ts (s .rows) n ht′ hr′ (s .count) j q (λ x. absurd (omega arith)) ∙ w .zeroed j (omega arith) (omega arith)
       ];
       list =
-        listed-next next-tags next-rows (s .count)
-        ∙ ap (λ (l : List Source). l ++ (source-at next-tags next-rows (s .count) ∷ [])) (listed-same next-tags ts next-rows (s .rows) (s .count) (λ j h. moved-other ts (s .rows) n ht′ hr′ (s .count) j (λ q. absurd (omega (arith, w .few))) (λ q. absurd (omega arith))))
-        ∙ ap (λ (x : Source). listed ts (s .rows) (s .count) ++ (x ∷ [])) (moved-there ts (s .rows) n ht′ hr′ (s .count) (w .few) ∙ w .beyond n (omega arith))
-        ∙ sym (more true e);
+          listed-next next-tags next-rows (s .count)
+          ∙ ap (λ (l : List Source). l ++ (source-at next-tags next-rows (s .count) ∷ [])) (listed-same next-tags ts next-rows (s .rows) (s .count) (λ j h. moved-other ts (s .rows) n ht′ hr′ (s .count) j (λ q. absurd (omega (arith, w .few))) (λ q. absurd (omega arith))))
+          ∙ ap (λ (x : Source). listed ts (s .rows) (s .count) ++ (x ∷ [])) (moved-there ts (s .rows) n ht′ hr′ (s .count) (w .few) ∙ w .beyond n (omega arith))
+          ∙ sym (more true e);
     }
 
     step : Passed (n + 1) (prune-one s k n) (tag-moved ts (total-at (s .rows) n) k n (s .count))
@@ -237,17 +231,30 @@ module _ (tags : List ℕ) (rows : List (List ℕ)) (k : ℕ) where
         tags-long = w .tags-long;
       }
 
-full : (tags : List ℕ) (rows : List (List ℕ)) → length rows ≤ length tags
-    → Leaves tags rows (length rows) (at-quarter (map sum (listed tags rows (length rows)))) (pruned (sources (length rows) rows)) (pruned-tags (sources (length rows) rows) tags)
-unfolding pruned pruned-tags
-full tags rows h =
-    let e : keep-from (totals rows (length rows)) ≡ at-quarter (map sum (listed tags rows (length rows))) =
-    quarter (totals rows (length rows)) ∙ ap at-quarter (sym (sums tags rows (length rows) (omega arith))) in
-    rw (le-ltb (length rows) (length rows) (omega arith), ← e) (leaves tags rows (keep-from (totals rows (length rows))) (length rows) h (omega arith))
+-- ---- where every row is taken, and where not
+module _ (tags : List ℕ) (rows : List (List ℕ)) where
+  abbrev all : Sources
+  all = sources (length rows) rows
 
-room : (tags : List ℕ) (rows : List (List ℕ)) (n : ℕ) → n < length rows → (pruned (sources n rows) ≡ sources n rows) × (pruned-tags (sources n rows) tags ≡ tags)
-unfolding pruned pruned-tags
-room tags rows n h = (rw (lt-ltb n (length rows) h), rw (lt-ltb n (length rows) h))
+  abbrev bar : ℕ
+  bar = keep-from (totals rows (length rows))
+
+  full-rows : pruned all ≡ prune rows bar (length rows)
+  unfolding pruned
+  full-rows = ap (λ (b : Bool). choose b all (prune rows bar (length rows))) (le-ltb _ (length rows) (omega arith))
+
+  full-tags : pruned-tags all tags ≡ prune-tags tags rows bar (length rows)
+  unfolding pruned-tags
+  full-tags = ap (λ (b : Bool). either b tags (prune-tags tags rows bar (length rows))) (le-ltb _ (length rows) (omega arith))
+
+  full : length rows ≤ length tags → Leaves tags rows (length rows) (at-quarter (map sum (listed tags rows (length rows)))) (pruned all) (pruned-tags all tags)
+  full h =
+      let e : bar ≡ at-quarter (map sum (listed tags rows (length rows))) = quarter (totals rows (length rows)) ∙ ap at-quarter (sym (sums tags rows (length rows) (omega arith))) in
+      rw (full-rows, full-tags, ← e) (leaves tags rows bar (length rows) h (omega arith))
+
+  room : (n : ℕ) → n < length rows → (pruned (sources n rows) ≡ sources n rows) × (pruned-tags (sources n rows) tags ≡ tags)
+  unfolding pruned pruned-tags
+  room n h = (rw (lt-ltb n (length rows) h), rw (lt-ltb n (length rows) h))
 
 pub prunes : Prunes
 prunes = record { sorts = sorts; full = full; room = room }

@@ -99,10 +99,14 @@ left kept n behind = sources (length kept) (kept ++ (replicate (n - length kept)
 unfoldable pub prune : List (List ℕ) → ℕ → ℕ → Sources
 prune rows k n = left (above k (take n rows)) n (drop n rows)
 
+-- the source at i stands at j, and i is freed
+abbrev pub row-put : List (List ℕ) → ℕ → ℕ → List (List ℕ)
+row-put rows i j = set (set rows i free) j (counted-row rows i)
+
 -- one source more: moved to the end of those kept where its total is above k, else freed
 unfoldable pub prune-one : Sources → ℕ → ℕ → Sources
 prune-one s k i =
-    choose (ltb k (total-at (s .rows) i)) (sources (s .count + 1) (set (set (s .rows) i free) (s .count) (counted-row (s .rows) i)))
+    choose (ltb k (total-at (s .rows) i)) (sources (s .count + 1) (row-put (s .rows) i (s .count)))
     (sources (s .count) (set (s .rows) i free))
 
 -- where every row is taken, the spare one too, only totals above k remain
@@ -110,9 +114,13 @@ unfoldable pub pruned : Sources → Sources
 pruned s = choose (ltb (s .count) (length (s .rows))) s (prune (s .rows) (keep-from (totals (s .rows) (s .count))) (s .count))
 
 -- ---- the tags go with their rows
+-- the tag at i stands at j, and i becomes 0
+abbrev pub tag-put : List ℕ → ℕ → ℕ → List ℕ
+tag-put tags i j = set (set tags i 0) j (getD tags i 0)
+
 -- the source at i of this total: its tag goes to j, the end of those kept, where the total is above k; its own place becomes 0
 unfoldable pub tag-moved : List ℕ → ℕ → ℕ → ℕ → ℕ → List ℕ
-tag-moved tags total k i j = either (ltb k total) (set (set tags i 0) j (getD tags i 0)) (set tags i 0)
+tag-moved tags total k i j = either (ltb k total) (tag-put tags i j) (set tags i 0)
 
 -- of the first n sources, one after the other
 unfoldable pub prune-tags : List ℕ → List (List ℕ) → ℕ → ℕ → List ℕ

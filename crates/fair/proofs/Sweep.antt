@@ -133,6 +133,6 @@ module _ (room : ℕ) where
           long = record { tags = d .tags; units = d .units; uses = d .uses };
           wide = λ v f. wide-of v (k .rows) (k .count) (subst (Each v) (sym (d .stay)) (each-without v (lent-stale t a) (records m n) (of-wide v m n f)));
           list =
-            listed-of (k .rows) (k .count) ∙ ap (map of) (d .stay)
-            ∙ sym (ap (sweep (stale t a)) (listed-of m n) ∙ sweep-of (stale t a) (lent-stale t a) (stale-of t a) (records m n));
+              listed-of (k .rows) (k .count) ∙ ap (map of) (d .stay)
+              ∙ sym (ap (sweep (stale t a)) (listed-of m n) ∙ sweep-of (stale t a) (lent-stale t a) (stale-of t a) (records m n));
         }

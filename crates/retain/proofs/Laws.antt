@@ -139,10 +139,10 @@ module _ (m : Rows) (t a : ℕ) where
           | no q ↦ record-same next j (k .rows) j (stays j q (λ x. absurd (omega arith))) ∙ w .zeroed j (omega arith) (omega arith)
         ];
         list =
-          records-next next (k .count)
-          ∙ ap (λ (x : List Record). x ++ (record-at next (k .count) ∷ [])) (records-same next (k .rows) (k .count) (λ j h. record-same next j (k .rows) j (stays j (λ q. absurd (omega arith)) (λ q. absurd (omega arith)))))
-          ∙ ap (λ (r : Record). records (k .rows) (k .count) ++ (r ∷ [])) (record-same next (k .count) (k .rows) n (moved-there (k .rows) n (k .count) end) ∙ as-before)
-          ∙ sym (more false e);
+            records-next next (k .count)
+            ∙ ap (λ (x : List Record). x ++ (record-at next (k .count) ∷ [])) (records-same next (k .rows) (k .count) (λ j h. record-same next j (k .rows) j (stays j (λ q. absurd (omega arith)) (λ q. absurd (omega arith)))))
+            ∙ ap (λ (r : Record). records (k .rows) (k .count) ++ (r ∷ [])) (record-same next (k .count) (k .rows) n (moved-there (k .rows) n (k .count) end) ∙ as-before)
+            ∙ sym (more false e);
       }
 
     step-stays : stale t a (record-at m n) ≡ false → n ≤ k .count → Passed (n + 1) (kept (k .count + 1) (k .rows))
@@ -154,9 +154,9 @@ module _ (m : Rows) (t a : ℕ) where
           beyond = λ j h. w .beyond j (omega arith);
           zeroed = λ j h u. absurd (omega arith);
           list =
-            records-next (k .rows) (k .count)
-            ∙ ap (λ (r : Record). records (k .rows) (k .count) ++ (r ∷ [])) (ap (record-at (k .rows)) q ∙ as-before)
-            ∙ sym (more false e);
+              records-next (k .rows) (k .count)
+              ∙ ap (λ (r : Record). records (k .rows) (k .count) ++ (r ∷ [])) (ap (record-at (k .rows)) q ∙ as-before)
+              ∙ sym (more false e);
         }
 
     step : Passed (n + 1) (retain-one k t a n)
