@@ -148,8 +148,7 @@ def clocks(rows):
 
 def seconds(rows, start, end):
     """T of the run of the taken rows among rows[start:end]."""
-    at = [t for t, r in zip(clocks(rows), rows)][start:end]
-    at = [t for t, r in zip(at, rows[start:end]) if not r.is_refused]
+    at = [t for t, r in zip(clocks(rows)[start:end], rows[start:end]) if not r.is_refused]
     return Fraction(at[-1] - at[0], 1000)
 
 
@@ -313,19 +312,18 @@ def spared_costs():
 
 
 # ---- the files
-stdin, stdout = [], b''
+stdin, stdout = [], []
 
 
 def add(lines, watches, figures=None):
-    """A list, and its runs."""
-    global stdout
+    """A list, the line of figures, and its runs."""
     rows, reports = rows_of(lines)
     stdin.extend(lines)
     if figures:
         stdin.append(b'# ' + figures(rows).encode())
     for watch in watches:
         stdin.append(b'W %s %d %d' % watch)
-        stdout += said_of(lines, rows, reports, watch)
+        stdout.append(said_of(lines, rows, reports, watch))
     return rows
 
 
@@ -356,4 +354,4 @@ for cost, word in ((within, b'ok'), (past, b'over-share')):
     assert rows[-1].answer == word
     assert 1 - NEAR <= tried_part(rows) <= 1 if word == b'ok' else 1 < tried_part(rows) <= 1 + NEAR
 open(folder + '/stdin', 'wb').write(b'\n'.join(stdin) + b'\n')
-open(folder + '/stdout', 'wb').write(stdout)
+open(folder + '/stdout', 'wb').write(b''.join(stdout))
