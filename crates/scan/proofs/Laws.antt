@@ -2,7 +2,7 @@
 use mathlib.Core.Bool.{Bool, true, false}
 use Prim.Native.Nat.{ℕ, _+_}
 use lib.Dec.{leb, ltb}
-use Rattle.store.specs.Store as store
+use Rattle.retain.specs.Retain.{retained}
 use Rattle.wants.specs.Wants.{Hist, cleared}
 use Rattle.head.specs.declared.Shedder.{Shedder}
 use Rattle.head.specs.Numbers.{choose}
@@ -16,7 +16,7 @@ use Rattle.scan.proofs.Judgements.{ended-by, visits-two, rests}
 module _ (P : Shedder → Type 0) (at-visit : (h : Shedder) (n : ℕ) → P h → P (visited h n)) (at-begin : (h : Shedder) (t : ℕ) → P h → P (opened h t)) (at-end : (h : Shedder) (g : Hist) → P h → P (trimmed h g)) where
   visit-keeps : (s : Scanning) → P (s .head) → P (visit s .head)
   unfolding visit
-  visit-keeps s p = at-visit (s .head) (store.retained (s .rows) (s .head .scan .next) (s .head .scan .«at_ms») (s .head .tracked) .count) p
+  visit-keeps s p = at-visit (s .head) (retained (s .rows) (s .head .scan .next) (s .head .scan .«at_ms») (s .head .tracked) .count) p
 
   again-keeps : (s : Scanning) → P (s .head) → P (again s .head)
   unfolding again

@@ -12,7 +12,7 @@ use lib.Ieee as Ieee
 use lib.Ieee.{Float, nan, fin, binary64, fits}
 use Rattle.flow.specs.Flow.{half, one, at, numbers}
 use Rattle.flow.specs.declared.Use.{Use}
-use Rattle.store.specs.Store as store
+use Rattle.retain.specs.Retain.{retained}
 use Rattle.store.specs.Store.{Rows}
 use Rattle.wants.specs.Wants.{Hist, cleared}
 use Rattle.head.specs.declared.Scan.{Scan}
@@ -71,7 +71,7 @@ held h m g = record { rows = m; tracked = h .tracked; hist = g }
 -- a table visited at the scan's stamp t: overflow's want first at table 0, then the stale are dropped, then the wants of those kept
 abbrev pub sweep : Use → ℕ → ℕ → Swept → Swept
 sweep overflow t table w =
-    let k = store.retained (w .rows) table t (w .tracked) in
+    let k = retained (w .rows) table t (w .tracked) in
     record { rows = k .rows; tracked = k .count; hist = walk (k .rows) table t (k .count) (walk-overflow overflow table t (w .hist)) }
 
 -- the histogram is cleared as the scan begins
