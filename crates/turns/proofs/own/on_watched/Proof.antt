@@ -1,5 +1,6 @@
 use Rattle.turns.proofs.Watched.{told-own, told-shared}
-use mathlib.Core.Path.{sym, _∙_}
+use mathlib.Core.Path.{_≡_, sym, _∙_}
+use Rattle.sender.specs.Sender.{is-overflow}
 use borrow.Author.Needs.{needs}
 use Rattle.turns.proofs.own.on_watched.Statement.{statement}
 use Rattle.turns.proofs.own.on_watched.Tie as tie
@@ -17,7 +18,10 @@ is-overflow-requires : tie.Need-is-overflow-requires
 is-overflow-requires c κs = search needs
 
 returns-2 : tie.Need-returns-2
-returns-2 c = c .is-overflow .ensures ∙ told-shared _ _ _ _ _ _ (sym (c .before .before .uses-own .ensures) ∙ c .before .if1 .left)
+returns-2 c =
+    let args = c .before .before .before .before .args in
+    let is : c .is-overflow .result ≡ is-overflow (args .watched) = c .is-overflow .ensures in
+    is ∙ told-shared _ _ _ _ (args .watched) _ (sym (c .before .before .uses-own .ensures) ∙ c .before .if1 .left)
 
 pub on-watched-spec : {M : Type 1} → statement M
 on-watched-spec = tie.close (tie.spec uses-own-requires same-unit-requires returns is-overflow-requires returns-2)
