@@ -1,14 +1,14 @@
 -- A call more in the list, and the totals of the run. Assumes nothing.
-use mathlib.Core.Path.{_≡_, refl, sym, ap, _∙_, subst}
+use mathlib.Core.Path.{_≡_, refl, sym, ap, _∙_}
 use mathlib.Core.Bool.{Bool, true, false, cond, not, true≢false}
 use mathlib.Core.List.{List, _∷_}
 use native.Mathlib.Nat.{mod-add-mod, add-comm}
 use Prim.Native.Nat.{ℕ, zero, suc, _+_, _<_, _≤_, _^_, _%_}
 use native.Mathlib.Numerals.{add-one}
 use native.Mathlib.Omega.{arith}
-use borrow.Author.Tests.{lt-ltb, le-ltb, lt-leb, leb-false, eqb-true}
-use lib.Dec.{eqb, leb, ltb}
-use lib.ListN.{length, getD, set, replicate}
+use borrow.Author.Tests.{lt-ltb, le-ltb, lt-leb, eqb-true}
+use lib.Dec.{eqb, ltb}
+use lib.ListN.{getD, set, replicate}
 use Rattle.flow.specs.Flow.{dims, upto}
 use Rattle.flow.proofs.Parts.{upto-at}
 use Rattle.fair.specs.Calls as calls
