@@ -7,8 +7,8 @@ pub use Rattle.head.specs.Start.{Beginning, start-ends}
 unfoldable pub use Rattle.head.specs.Start.{buckets, first-levels, opening, start}
 unfoldable pub use Rattle.head.specs.Readings.{index-of, visited as visited-tables, cut-batches, level-read, rate-read, is-bounded}
 unfoldable pub use Rattle.head.specs.Answers.{judge-number, cut-number, reading-number, level-number, rate-number, bounded-number}
-pub use Rattle.scan.specs.Trimming.{trims-at}
-unfoldable pub use Rattle.scan.specs.Trimming.{opens, levels, trimmed}
+pub use Rattle.trim.specs.Trimming.{trims-at}
+unfoldable pub use Rattle.trim.specs.Trimming.{opens, levels, trimmed}
 pub use Rattle.scan.specs.Scanning.{Scanning, scanning, Started, started, ended-at, scanned-from}
 unfoldable pub use Rattle.scan.specs.Scanning.{visited, visit, again, ended, opened, begun, scanned}
 pub use Rattle.entry.specs.Entering.{Entered, entered, place, headed}

@@ -6,10 +6,11 @@ use Rattle.retain.specs.Retain.{retained}
 use Rattle.wants.specs.Wants.{Hist, cleared}
 use Rattle.head.specs.declared.Shedder.{Shedder}
 use Rattle.head.specs.Numbers.{choose}
-use Rattle.scan.specs.Trimming.{trims-at, trimmed}
+use Rattle.trim.specs.Trimming.{trimmed}
+use Rattle.trim.specs.Laws.{Rates, Trims, Levels}
+use Rattle.trim.proofs.Laws.{trim-law, level-law}
 use Rattle.scan.specs.Scanning.{Scanning, Started, scanning, visited, visit, again, ended, ended-at, opened, started, begun, scanned, scanned-from}
-use Rattle.scan.specs.Laws.{Rates, Trims, TrimStays, Levels, LevelStays, Scans}
-use Rattle.scan.proofs.Ranges.{trim-stays, trim-any, trims-stay, levels-least}
+use Rattle.scan.specs.Laws.{Stays, Scans}
 use Rattle.scan.proofs.Judgements.{ended-by, visits-two, rests}
 
 -- ---- what a visit, a beginning and an end keep, a judgement keeps
@@ -62,16 +63,10 @@ unfolding opened
 opened-trim h t p = p
 
 ended-trim : (h : Shedder) (g : Hist) → Trimmed h → Trimmed (trimmed h g)
-unfolding trimmed
-ended-trim h g p = (p .0, trims-stay h g (p .0) (p .1))
-
-pub trim-law : TrimStays
-trim-law = record {
-  each = trim-stays;
-  any = trim-any;
-  ended = λ h g r t. ended-trim h g (r, t) .1;
-  judged = λ s clock r t. keeps Trimmed visited-trim opened-trim ended-trim s clock (r, t) .1;
-}
+ended-trim h g p = (ended-rates h g (p .0), trim-law .ended h g (p .0) (p .1))
+  where
+    ended-rates : (h : Shedder) (g : Hist) → Rates h → Rates (trimmed h g)
+    ended-rates h g r = unfold trimmed in r
 
 -- ---- the level
 visited-level : (h : Shedder) (n : ℕ) → Levels (h .level) → Levels (visited h n .level)
@@ -82,15 +77,10 @@ opened-level : (h : Shedder) (t : ℕ) → Levels (h .level) → Levels (opened 
 unfolding opened
 opened-level h t p = p
 
-ended-level : (h : Shedder) (g : Hist) → Levels (trimmed h g .level)
-unfolding trimmed
-ended-level h g = levels-least _ (trims-at h g)
-
-pub level-law : LevelStays
-level-law = record {
-  each = levels-least;
-  ended = ended-level;
-  judged = keeps (λ (h : Shedder). Levels (h .level)) visited-level opened-level (λ h g p. ended-level h g);
+pub stays : Stays
+stays = record {
+  trims = λ s clock r t. keeps Trimmed visited-trim opened-trim ended-trim s clock (r, t) .1;
+  levels = keeps (λ (h : Shedder). Levels (h .level)) visited-level opened-level (λ h g p. level-law .ended h g);
 }
 
 -- ---- the judgements of a scan

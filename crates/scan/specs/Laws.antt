@@ -1,55 +1,23 @@
--- Document 01 on a scan: trim stays in 0.5 to 1, the level stored is at least 1, a scan ends with its 32nd judgement. Laws on the definitions. Statements only; proofs/Laws.antt proves them.
--- They refuse a definition that trims outside, stores a lower level, or visits other tables, whatever the code does.
+-- Document 01 on a scan: it ends with its 32nd judgement, and no judgement leaves a trim or a level outside. Laws on the definitions. Statements only; proofs/Laws.antt proves them.
+-- They refuse a definition that visits other tables, or sets the level at another judgement, whatever the code does. crate `trim` has the laws of the trim and of the level stored.
 use mathlib.Core.Path.{_≡_}
-use mathlib.Core.Logic.{_⊎_}
-use mathlib.Core.Bool.{Bool, true}
-use mathlib.Core.List.{List}
 use Prim.Native.Nat.{ℕ, zero, suc, _+_, _*_, _%_, _^_, _≤_, _<_}
-use lib.Dec.{T}
-use lib.IntN.{ℤ}
-use lib.ListN.{getD}
-use lib.Ieee as Ieee
-use lib.Ieee.{Float, nan, fin, binary64, fits}
-use Rattle.flow.specs.Flow.{half, one, at, numbers}
+use Rattle.flow.specs.Flow.{numbers}
 use Rattle.flow.specs.declared.Use.{Use}
 use Rattle.retain.specs.Retain.{retained}
 use Rattle.store.specs.Store.{Rows}
 use Rattle.wants.specs.Wants.{Hist, cleared}
 use Rattle.head.specs.declared.Scan.{Scan}
 use Rattle.head.specs.declared.Shedder.{Shedder}
-use Rattle.head.specs.Numbers.{dims}
 use Rattle.scan.specs.Walking.{walk-overflow, walk}
-use Rattle.scan.specs.Trimming.{trim-of, levels, opens, trims-at, trimmed}
+use Rattle.trim.specs.Trimming.{levels, opens, trims-at}
+use Rattle.trim.specs.Laws.{Rates, Trims, Levels}
 use Rattle.scan.specs.Scanning.{Scanning, scanned}
 
--- ---- the trim: 0.5 ≤ x ≤ 1. A not-a-number is none, since it compares with nothing
-pub record Trim (x : Float) : Type 0 where
-  pub least : Ieee.le half x ≡ true
-  pub most : Ieee.le x one ≡ true
-
-abbrev pub Trims : List Float → Type 0
-Trims xs = (d : ℕ) → d < dims → Trim (at xs d)
-
--- every rate is a u64
-abbrev pub Rates : Shedder → Type 0
-Rates h = (d : ℕ) → d < dims → getD (h .flow .rate) d 0 < 2 ^ 64
-
-pub record TrimStays : Type 0 where
-  -- for a finite rate (`fin s m e`) and any double as the span, whatever was found and gained
-  pub each : (found trim gain span : Float) (s : Bool) (m : ℕ) (e : ℤ) → T (fits binary64 span) → Trim trim → Trim (trim-of found trim (fin s m e) gain span)
-  -- for any five values: in 0.5 to 1, or the trim before, or a not-a-number
-  pub any : (found trim rate gain span : Float) → Trim (trim-of found trim rate gain span) ⊎ ((trim-of found trim rate gain span ≡ trim) ⊎ (trim-of found trim rate gain span ≡ nan))
-  pub ended : (h : Shedder) (g : Hist) → Rates h → Trims (h .scan .trim) → Trims (trimmed h g .scan .trim)
-  pub judged : (s : Scanning) (clock : ℕ) → Rates (s .head) → Trims (s .head .scan .trim) → Trims (scanned s clock .head .scan .trim)
-
--- ---- the level stored: at least 1, so never a not-a-number; what a scan stores is, of any values
-abbrev pub Levels : List Float → Type 0
-Levels xs = (d : ℕ) → d < dims → Ieee.le one (at xs d) ≡ true
-
-pub record LevelStays : Type 0 where
-  pub each : (found trim : List Float) → Levels (levels found trim)
-  pub ended : (h : Shedder) (g : Hist) → Levels (trimmed h g .level)
-  pub judged : (s : Scanning) (clock : ℕ) → Levels (s .head .level) → Levels (scanned s clock .head .level)
+-- ---- what stays over a judgement: trims in 0.5 to 1, of a head whose rates are u64; levels of at least 1
+pub record Stays : Type 0 where
+  pub trims : (s : Scanning) (clock : ℕ) → Rates (s .head) → Trims (s .head .scan .trim) → Trims (scanned s clock .head .scan .trim)
+  pub levels : (s : Scanning) (clock : ℕ) → Levels (s .head .level) → Levels (scanned s clock .head .level)
 
 -- ---- the judgements of a scan
 

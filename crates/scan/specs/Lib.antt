@@ -1,4 +1,3 @@
 pub mod Walking
 pub mod Scanning
-pub mod Trimming
 pub mod Laws

@@ -9,7 +9,7 @@ use Rattle.wants.specs.Wants.{Hist}
 use Rattle.head.specs.declared.Shedder.{Shedder}
 use Rattle.head.specs.Numbers.{choose}
 use Rattle.scan.specs.Walking.{walk-overflow, walk}
-use Rattle.scan.specs.Trimming.{scan-then, trimmed}
+use Rattle.trim.specs.Trimming.{scan-then, trimmed}
 
 -- what a scan works on
 pub record Scanning : Type 0 where

@@ -50,7 +50,10 @@ fn written(s: Served, page: &[u8]) -> Served {
             is_broken: s.is_broken,
         };
     }
-    broken(t, b"shedtrial: standard output cannot be written, answers are lost\n")
+    broken(
+        t,
+        b"shedtrial: standard output cannot be written, answers are lost\n",
+    )
 }
 
 // Answers the line that is kept.

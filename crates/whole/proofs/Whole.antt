@@ -16,7 +16,7 @@ use Rattle.head.specs.Questions.{rates-whole, is-stamp, tables-whole, rooms-who
 use Rattle.head.proofs.Tests.{zero-yes, yes-yes, both}
 use Rattle.head.proofs.Whole.{Whole, tables-is, tables-sum}
 use Rattle.head.specs.Start.{Beginning, opening, start}
-use Rattle.scan.specs.Trimming.{trimmed}
+use Rattle.trim.specs.Trimming.{trimmed}
 use Rattle.scan.specs.Scanning.{Scanning, scanning, visited, visit, again, ended, opened, Started, started, begun, scanned}
 
 -- ---- the memory has the capacities noted

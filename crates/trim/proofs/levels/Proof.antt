@@ -1,5 +1,5 @@
 use Rattle.head.specs.Numbers.{dims}
-use Rattle.scan.specs.Trimming.{levels}
+use Rattle.trim.specs.Trimming.{levels}
 use lib.Ieee.{binary64, mul}
 use Rattle.flow.proofs.Parts.{upto-none, upto-next}
 use Rattle.flow.specs.Flow.{at, upto, zeros, one}
@@ -8,8 +8,8 @@ use native.Mathlib.Omega.{arith}
 use Prim.Native.Nat.{ℕ, _≤_, _-_}
 use mathlib.Core.Path.{_≡_}
 use borrow.Author.Needs.{needs}
-use Rattle.scan.proofs.levels.Statement.{statement}
-use Rattle.scan.proofs.levels.Tie as tie
+use Rattle.trim.proofs.levels.Statement.{statement}
+use Rattle.trim.proofs.levels.Tie as tie
 
 abbrev Inv-loop : tie.InvT-loop
 Inv-loop gap trim out₀ d₀ out d = (d ≤ dims) × (out ≡ upto (λ (i : ℕ). most (mul binary64 (at gap i) (at trim i)) one) d zeros)

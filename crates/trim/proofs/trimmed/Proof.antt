@@ -1,7 +1,7 @@
-use Rattle.scan.specs.Trimming.{trimmed}
+use Rattle.trim.specs.Trimming.{trimmed}
 use borrow.Author.Needs.{needs}
-use Rattle.scan.proofs.trimmed.Statement.{statement}
-use Rattle.scan.proofs.trimmed.Tie as tie
+use Rattle.trim.proofs.trimmed.Statement.{statement}
+use Rattle.trim.proofs.trimmed.Tie as tie
 
 numbers-requires : tie.Need-numbers-requires
 numbers-requires c κs = search needs

@@ -15,7 +15,7 @@ use Rattle.ieee.proofs.Order.{passed}
 use borrow.Author.Tests.{lt-ltb, ltb-true, ltb-false, eq-eqb, ne-eqb}
 use Rattle.ieee.specs.Extremes.{clamped, most}
 use Rattle.flow.specs.Flow.{nothing, half, one}
-use Rattle.scan.specs.Laws.{Trim}
+use Rattle.trim.specs.Laws.{Trim}
 
 -- x is a number, and no not-a-number
 pub data Number : Float → Type 0 where

@@ -1,6 +1,6 @@
-use Rattle.scan.specs.Trimming.{is-finite}
-use Rattle.scan.proofs.is_finite.Statement.{statement}
-use Rattle.scan.proofs.is_finite.Tie as tie
+use Rattle.trim.specs.Trimming.{is-finite}
+use Rattle.trim.proofs.is_finite.Statement.{statement}
+use Rattle.trim.proofs.is_finite.Tie as tie
 
 returns : tie.Need-returns
 unfolding is-finite

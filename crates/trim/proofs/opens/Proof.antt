@@ -1,14 +1,14 @@
 use Rattle.wants.specs.Wants.{hist, level}
 use Rattle.head.specs.Numbers.{dims}
-use Rattle.scan.specs.Trimming.{opens}
+use Rattle.trim.specs.Trimming.{opens}
 use Rattle.flow.proofs.Parts.{upto-none, upto-next}
 use Rattle.flow.specs.Flow.{at, upto, zeros}
 use native.Mathlib.Omega.{arith}
 use Prim.Native.Nat.{ℕ, _≤_, _-_}
 use mathlib.Core.Path.{_≡_}
 use borrow.Author.Needs.{needs}
-use Rattle.scan.proofs.opens.Statement.{statement}
-use Rattle.scan.proofs.opens.Tie as tie
+use Rattle.trim.proofs.opens.Statement.{statement}
+use Rattle.trim.proofs.opens.Tie as tie
 
 abbrev Inv-loop : tie.InvT-loop
 Inv-loop counts sums rate out₀ d₀ out d = (d ≤ dims) × (out ≡ upto (λ (i : ℕ). level (hist counts sums) i (at rate i)) d zeros)

@@ -1,7 +1,7 @@
-use Rattle.scan.specs.Trimming.{span-of}
+use Rattle.trim.specs.Trimming.{span-of}
 use borrow.Author.Needs.{needs}
-use Rattle.scan.proofs.span_of.Statement.{statement}
-use Rattle.scan.proofs.span_of.Tie as tie
+use Rattle.trim.proofs.span_of.Statement.{statement}
+use Rattle.trim.proofs.span_of.Tie as tie
 
 since-requires : tie.Need-since-requires
 since-requires c κs = search needs

@@ -1,11 +1,11 @@
-use Rattle.scan.specs.Trimming.{trim-of}
+use Rattle.trim.specs.Trimming.{trim-of}
 use Rattle.ieee.specs.Extremes.{clamped}
 use Rattle.flow.specs.Flow.{half, one}
 use lib.Ieee.{Float, binary64, mul}
 use mathlib.Core.Path.{sym, ap, _∙_}
 use borrow.Author.Needs.{needs}
-use Rattle.scan.proofs.trim_of.Statement.{statement}
-use Rattle.scan.proofs.trim_of.Tie as tie
+use Rattle.trim.proofs.trim_of.Statement.{statement}
+use Rattle.trim.proofs.trim_of.Tie as tie
 
 is-finite-requires : tie.Need-is-finite-requires
 is-finite-requires c κs = search needs

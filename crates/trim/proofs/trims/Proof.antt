@@ -1,6 +1,6 @@
-use Rattle.scan.specs.Trimming.{trim-of}
+use Rattle.trim.specs.Trimming.{trim-of}
 use Rattle.head.specs.Numbers.{dims}
-use Rattle.scan.specs.Trimming.{trims}
+use Rattle.trim.specs.Trimming.{trims}
 use lib.Ieee.{binary64, sub}
 use Rattle.flow.proofs.Parts.{upto-none, upto-next}
 use Rattle.flow.specs.Flow.{at, upto, zeros}
@@ -8,8 +8,8 @@ use native.Mathlib.Omega.{arith}
 use Prim.Native.Nat.{ℕ, _≤_, _-_}
 use mathlib.Core.Path.{_≡_}
 use borrow.Author.Needs.{needs}
-use Rattle.scan.proofs.trims.Statement.{statement}
-use Rattle.scan.proofs.trims.Tie as tie
+use Rattle.trim.proofs.trims.Statement.{statement}
+use Rattle.trim.proofs.trims.Tie as tie
 
 abbrev Inv-loop : tie.InvT-loop
 Inv-loop span gap trim rate admitted read out₀ d₀ out d = (d ≤ dims) × (out ≡ upto (λ (i : ℕ). trim-of (at gap i) (at trim i) (at rate i) (sub binary64 (at admitted i) (at read i)) span) d zeros)

@@ -27,9 +27,9 @@ use Rattle.flow.proofs.Parts.{upto-at}
 use Rattle.wants.specs.Wants.{Hist}
 use Rattle.head.specs.declared.Shedder.{Shedder}
 use Rattle.head.specs.Numbers.{dims}
-use Rattle.scan.specs.Trimming.{is-finite, twentieth, step-of, trim-of, trims, trims-at, levels, opens, span-of}
-use Rattle.scan.specs.Laws.{Trim, Trims, Rates, Levels}
-use Rattle.scan.proofs.Doubles.{Number, finite, Finite, some, add-number, add-to, mul-number, div-number, clamp-number, clamp-trim, trim-positive, positive-finite, number-or-nan, most-least}
+use Rattle.trim.specs.Trimming.{is-finite, twentieth, step-of, trim-of, trims, trims-at, levels, opens, span-of}
+use Rattle.trim.specs.Laws.{Trim, Trims, Rates, Levels}
+use Rattle.trim.proofs.Doubles.{Number, finite, Finite, some, add-number, add-to, mul-number, div-number, clamp-number, clamp-trim, trim-positive, positive-finite, number-or-nan, most-least}
 
 -- ---- a double above zero, divided by 1, is finite and not zero
 fits-top : (s : Bool) (m : ℕ) (e : ℤ) → T (fits binary64 (fin s m e)) → m * up e < power 1024 * down e

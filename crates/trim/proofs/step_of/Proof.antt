@@ -1,7 +1,7 @@
-use Rattle.scan.specs.Trimming.{step-of}
+use Rattle.trim.specs.Trimming.{step-of}
 use borrow.Author.Needs.{needs}
-use Rattle.scan.proofs.step_of.Statement.{statement}
-use Rattle.scan.proofs.step_of.Tie as tie
+use Rattle.trim.proofs.step_of.Statement.{statement}
+use Rattle.trim.proofs.step_of.Tie as tie
 
 clamp-requires : tie.Need-clamp-requires
 clamp-requires c κs = search needs

@@ -1,0 +1,3 @@
+pub mod Doubles
+pub mod Ranges
+pub mod Laws
