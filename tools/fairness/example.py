@@ -81,7 +81,7 @@ def told(text, levels):
             sys.exit('a batch within want and bound was told over share')
     answers = [b[2] for b in batches]
     lowest = min(b[3] for b in batches)
-    print(f'lowest level {lowest:.2f};', ', '.join(f'{w} {answers.count(w)}' for w in WORDS.values()))
+    print(f'lowest level at its batches {lowest:.2f};', ', '.join(f'{w} {answers.count(w)}' for w in WORDS.values()))
 
 
 def main():

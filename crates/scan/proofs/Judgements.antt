@@ -10,6 +10,7 @@ use Rattle.wants.specs.Wants.{Hist, cleared}
 use Rattle.head.specs.declared.Shedder.{Shedder}
 use Rattle.head.specs.Numbers.{choose}
 use Rattle.trim.specs.Trimming.{trimmed}
+use Rattle.scan.specs.Walking.{walk-overflow}
 use Rattle.scan.specs.Scanning.{Scanning, scanning, visited, visit, again, ended, ended-at, opened, begun, scanned, is-idle}
 use Rattle.scan.specs.Laws.{Judgement, begins, goes-on, held, sweep, begins-with, Keeps, Stores, Place, Visits}
 use Rattle.scan.proofs.Scanning.{scanned-idle}
@@ -50,7 +51,7 @@ visits-twice s = mod-add-mod (s .head .visits + 1) (2 ^ 64) 1 ∙ ap (λ (n : �
 tables-twice : (s : Scanning)
     → held (visit (visit s) .head) (visit (visit s) .rows) (visit (visit s) .hist)
     ≡ sweep (s .head .overflow) (s .head .scan .«at_ms») (s .head .scan .next + 1) (sweep (s .head .overflow) (s .head .scan .«at_ms») (s .head .scan .next) (held (s .head) (s .rows) (s .hist)))
-unfolding visit visited
+unfolding visit visited walk-overflow
 tables-twice s = refl
 
 -- ---- the end of a judgement: the level is stored where no table remains
@@ -101,13 +102,13 @@ module _ (t k : ℕ) (s : Scanning) (l : k < 32) (p : Place t k (s .head .scan))
   turn-before m = subst (Keeps (s .head)) (sym (not-ended (twice s .head) (twice s .hist) (omega (arith, place-twice t k s l p .remaining)))) kept
     where
       kept : Keeps (s .head) (twice s .head)
-      kept = unfold visit visited in record { level = refl; trim = refl; «open» = refl }
+      kept = unfold visit visited in record { level = refl; trim = refl; «open» = refl; read = refl; admitted = refl }
 
   turn-last : suc k ≡ 32 → Stores (s .head) (ended (twice s .head) (twice s .hist)) (twice s .hist)
   turn-last m = subst (λ (h : Shedder). Stores (s .head) h (twice s .hist)) (sym (is-ended (twice s .head) (twice s .hist) (omega (arith, place-twice t k s l p .remaining)))) (stored (twice s .hist))
     where
       stored : (g : Hist) → Stores (s .head) (trimmed (twice s .head) g) g
-      stored g = unfold visit visited trimmed in record { «open» = refl; trim = refl; level = refl }
+      stored g = unfold visit visited trimmed in record { «open» = refl; trim = refl; level = refl; read = refl; admitted = refl }
 
   turn : (g : Hist) → s .hist ≡ begins-with k g → Visits t k (scanning (s .head) (s .rows) g) (ended-at (again (visit s)))
   turn g e =
@@ -132,8 +133,8 @@ from-opened t s left v = record {
   place = v .place;
   visits = v .visits;
   tables = v .tables;
-  before = λ m. let b = v .before m in record { level = b .level; trim = b .trim; «open» = b .«open» };
-  last = λ m. let b = v .last m in record { «open» = b .«open»; trim = b .trim; level = b .level };
+  before = λ m. let b = v .before m in record { level = b .level; trim = b .trim; «open» = b .«open»; read = b .read; admitted = b .admitted };
+  last = λ m. let b = v .last m in record { «open» = b .«open»; trim = b .trim; level = b .level; read = b .read; admitted = b .admitted };
 }
 
 pub visits-two : {t k : ℕ} {got left : Scanning} → Judgement t k got left → Visits t k got left

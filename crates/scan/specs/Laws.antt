@@ -2,14 +2,16 @@
 -- They refuse a definition that visits other tables, or sets the level at another judgement, whatever the code does. crate `trim` has the laws of the trim and of the level stored.
 use mathlib.Core.Path.{_≡_}
 use Prim.Native.Nat.{ℕ, zero, suc, _+_, _*_, _%_, _^_, _≤_, _<_}
-use Rattle.flow.specs.Flow.{numbers}
+use lib.Dec.{eqb}
+use Rattle.flow.specs.Flow.{numbers, is-fresh}
 use Rattle.flow.specs.declared.Use.{Use}
 use Rattle.retain.specs.Retain.{retained}
 use Rattle.store.specs.Store.{Rows}
 use Rattle.wants.specs.Wants.{Hist, cleared}
 use Rattle.head.specs.declared.Scan.{Scan}
 use Rattle.head.specs.declared.Shedder.{Shedder}
-use Rattle.scan.specs.Walking.{walk-overflow, walk}
+use Rattle.head.specs.Numbers.{choose}
+use Rattle.scan.specs.Walking.{walk-use, walk}
 use Rattle.trim.specs.Trimming.{levels, opens, trims-at}
 use Rattle.trim.specs.Laws.{Rates, Trims, Levels}
 use Rattle.scan.specs.Scanning.{Scanning, scanned}
@@ -36,11 +38,15 @@ pub record Swept : Type 0 where
 abbrev pub held : Shedder → Rows → Hist → Swept
 held h m g = record { rows = m; tracked = h .tracked; hist = g }
 
--- a table visited at the scan's stamp t: overflow's want first at table 0, then the stale are dropped, then the wants of those kept
+-- overflow's want: at table 0, once it has been judged
+abbrev pub overflow-first : Use → ℕ → ℕ → Hist → Hist
+overflow-first overflow t table g = choose (eqb table 0) (choose (is-fresh (overflow .fresh)) g (walk-use overflow t g)) g
+
+-- a table visited at the scan's stamp t: overflow's want first, then the stale are dropped, then the wants of those kept
 abbrev pub sweep : Use → ℕ → ℕ → Swept → Swept
 sweep overflow t table w =
     let k = retained (w .rows) table t (w .tracked) in
-    record { rows = k .rows; tracked = k .count; hist = walk (k .rows) table t (k .count) (walk-overflow overflow table t (w .hist)) }
+    record { rows = k .rows; tracked = k .count; hist = walk (k .rows) table t (k .count) (overflow-first overflow t table (w .hist)) }
 
 -- the histogram is cleared as the scan begins
 abbrev pub begins-with : ℕ → Hist → Hist
@@ -52,12 +58,16 @@ pub record Keeps (got left : Shedder) : Type 0 where
   pub level : left .level ≡ got .level
   pub trim : left .scan .trim ≡ got .scan .trim
   pub «open» : left .scan .«open» ≡ got .scan .«open»
+  pub read : left .scan .«read_ms» ≡ got .scan .«read_ms»
+  pub admitted : left .scan .«read_admitted» ≡ got .scan .«read_admitted»
 
--- the level is found from the histogram, trimmed and stored
+-- the level is found from the histogram, trimmed and stored; clock and amount admitted are noted as read
 pub record Stores (got left : Shedder) (g : Hist) : Type 0 where
   pub «open» : left .scan .«open» ≡ opens g (numbers (got .flow .rate))
   pub trim : left .scan .trim ≡ trims-at got g
   pub level : left .level ≡ levels (left .scan .«open») (left .scan .trim)
+  pub read : left .scan .«read_ms» ≡ got .flow .«at_ms»
+  pub admitted : left .scan .«read_admitted» ≡ got .flow .admitted
 
 -- after k judgements of the scan begun at t
 pub record Place (t k : ℕ) (s : Scan) : Type 0 where

@@ -4,7 +4,7 @@ use Rattle.wants.specs.Wants.{Hist}
 use Rattle.head.specs.declared.Shedder.{Shedder}
 use Rattle.trim.specs.Trimming.{trims-at, trimmed}
 use Rattle.trim.specs.Laws.{Rates, Trims, TrimStays, Levels, LevelStays}
-use Rattle.trim.proofs.Ranges.{trim-stays, trim-any, trims-stay, levels-least}
+use Rattle.trim.proofs.Ranges.{trim-stays, trim-any, trims-stay, levels-are, levels-least}
 
 ended-trim : (h : Shedder) (g : Hist) → Rates h → Trims (h .scan .trim) → Trims (trimmed h g .scan .trim)
 unfolding trimmed
@@ -18,4 +18,4 @@ unfolding trimmed
 ended-level h g = levels-least _ (trims-at h g)
 
 pub level-law : LevelStays
-level-law = record { each = levels-least; ended = ended-level }
+level-law = record { is = levels-are; each = levels-least; ended = ended-level }

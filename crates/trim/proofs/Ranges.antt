@@ -189,3 +189,7 @@ levels-least found trim d l =
       | inr e ↦ rw e (unfold le ne ofBits in refl)
       | inl n ↦ most-least (Ieee.mul binary64 (at found d) (at trim d)) _ n (unfold le ofBits in refl) (unfold ofBits in tt)
     ])
+
+pub levels-are : (found trim : List Float) (d : ℕ) → d < dims → at (levels found trim) d ≡ most (Ieee.mul binary64 (at found d) (at trim d)) one
+unfolding levels
+levels-are found trim d l = upto-at nan _ _ zeros d (omega arith) (lit≤ tt)

@@ -10,6 +10,7 @@ use lib.IntN.{ℤ}
 use lib.ListN.{getD}
 use lib.Ieee as Ieee
 use lib.Ieee.{Float, nan, fin, binary64, fits}
+use Rattle.ieee.specs.Extremes.{most}
 use Rattle.flow.specs.Flow.{half, one, at}
 use Rattle.wants.specs.Wants.{Hist}
 use Rattle.head.specs.declared.Shedder.{Shedder}
@@ -35,10 +36,11 @@ pub record TrimStays : Type 0 where
   pub any : (found trim rate gain span : Float) → Trim (trim-of found trim rate gain span) ⊎ ((trim-of found trim rate gain span ≡ trim) ⊎ (trim-of found trim rate gain span ≡ nan))
   pub ended : (h : Shedder) (g : Hist) → Rates h → Trims (h .scan .trim) → Trims (trimmed h g .scan .trim)
 
--- ---- the level stored: at least 1, so never a not-a-number; what a scan stores is, of any values
+-- ---- the level stored: open × trim, but at least 1, so never a not-a-number; what a scan stores is, of any values
 abbrev pub Levels : List Float → Type 0
 Levels xs = (d : ℕ) → d < dims → Ieee.le one (at xs d) ≡ true
 
 pub record LevelStays : Type 0 where
+  pub is : (found trim : List Float) (d : ℕ) → d < dims → at (levels found trim) d ≡ most (Ieee.mul binary64 (at found d) (at trim d)) one
   pub each : (found trim : List Float) → Levels (levels found trim)
   pub ended : (h : Shedder) (g : Hist) → Levels (trimmed h g .level)
