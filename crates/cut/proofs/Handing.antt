@@ -10,8 +10,8 @@ use Rattle.sender.specs.declared.Unit.{Unit}
 use Rattle.store.specs.Store.{Rows, rows}
 use Rattle.head.specs.declared.Flow.{Flow}
 use Rattle.head.specs.declared.Shedder.{Shedder}
-use Rattle.entry.specs.declared.Place.{Place}
-use Rattle.entry.specs.Entering.{Entered, entered, entry, used-at, back, put-back, headed}
+use Rattle.store_entry.specs.declared.Place.{Place}
+use Rattle.store_entry.specs.Entering.{Entered, entered, entry, used-at, back, put-back, headed}
 use Rattle.cut.specs.Cutting.{lowered, flowed-back, kept-by, handed-with, handed-at, handed-back}
 
 pub handed-is : (h : Shedder) (m : Rows) (u : Unit) (cost : List Float)

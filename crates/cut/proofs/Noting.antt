@@ -11,7 +11,7 @@ use Rattle.store.specs.Store.{Rows, rows}
 use Rattle.head.specs.declared.Shedder.{Shedder}
 use Rattle.head.specs.declared.Cause.{Cause}
 use Rattle.head.specs.Readings.{index-of}
-use Rattle.tally.specs.Counting.{Tally, tally, tallied}
+use Rattle.cut_counts.specs.Counting.{Tally, tally, tallied}
 use Rattle.cut.specs.declared.Cutting.{Cutting}
 use Rattle.cut.specs.Cutting.{KeptBy, kept-by, cut-ends, cut-noted, cut-after, noting, noted-as, noted}
 

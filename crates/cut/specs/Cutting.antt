@@ -22,8 +22,8 @@ use Rattle.cut.specs.declared.Cutting.{Cutting}
 use Rattle.head.specs.Numbers.{dims, choose}
 use Rattle.head.specs.Questions.{is-unbounded, cut-asked}
 use Rattle.head.specs.Readings.{index-of}
-use Rattle.entry.specs.Entering.{is-misplaced, Entered, entry, used-at, Back, put-back, headed}
-use Rattle.tally.specs.Counting.{Tally, tally, tallied}
+use Rattle.store_entry.specs.Entering.{is-misplaced, Entered, entry, used-at, Back, put-back, headed}
+use Rattle.cut_counts.specs.Counting.{Tally, tally, tallied}
 
 -- a bounded relay hands back a cut for the receiver's ceiling
 unfoldable pub hands-back : List ℕ → Cause → Bool

@@ -7,7 +7,7 @@ ghost use Rattle.store.specs.Store as store;
 ghost use Rattle.head.specs.Answers as answers;
 ghost use Rattle.head.specs.Questions as asked;
 ghost use Rattle.head.specs.Bits.{Same-but-nan-bits};
-ghost use Rattle.tally.specs.Counting as counting;
+ghost use Rattle.cut_counts.specs.Counting as counting;
 ghost use Rattle.cut.specs.Cutting as cutting;
 use flow::DIMS;
 use head::Cause;
@@ -89,7 +89,7 @@ fn handed_back(
     let f = head.flow;
     let room = head.unit_room;
     let overflow = head.overflow;
-    let p = entry::entry(
+    let p = store_entry::entry(
         tags,
         units,
         uses,
@@ -101,9 +101,9 @@ fn handed_back(
         f.at_ms,
     );
     let at = p.at;
-    let used = entry::used_at(units, uses, overflow, at);
+    let used = store_entry::used_at(units, uses, overflow, at);
     let next = used.handed_back(cost);
-    let shared = entry::put_back(units, uses, overflow, at, next);
+    let shared = store_entry::put_back(units, uses, overflow, at, next);
     let flow = flowed_back(f, cost);
     let mut h = head;
     h.flow = flow;
@@ -126,7 +126,7 @@ fn noted(
     ensures { λ r. ⌜ cutting.noting r (now (tags .exit)) (now (counted .exit)) ≡ cutting.noted (counting.tally head (now (tags .entry)) (now (counted .entry))) name cause cost ⌝ }
     ensures { λ r. ⌜ answers.cut-number (r .answer) ≡ 0 ⌝ }
 {
-    let t = tally::tallied(head, tags, counted, name, head::index_of(cause), cost[0]);
+    let t = cut_counts::tallied(head, tags, counted, name, head::index_of(cause), cost[0]);
     Cutting {
         answer: Done::Counted,
         head: t,
@@ -165,8 +165,8 @@ pub fn cut(
     let rate = f.rate;
     let name = sender::name_of(unit);
     if hands_back(rate, cause) {
-        let i = search::find(tags, units, head.tracked, name);
-        if entry::is_misplaced(tags, units, head.tracked, name, i) {
+        let i = store_search::find(tags, units, head.tracked, name);
+        if store_entry::is_misplaced(tags, units, head.tracked, name, i) {
             return Cutting {
                 answer: Done::Refused(9),
                 head,

@@ -27,7 +27,7 @@ use Rattle.fair.proofs.View as view
 use Rattle.fair.proofs.View.{Name, same, shares, named, name-of}
 use Rattle.fair.proofs.Sweep as pass
 use Rattle.fair.proofs.Sweep.{Wide}
-use Rattle.retain.proofs.Places.{Long, long-join}
+use Rattle.store_retain.proofs.Places.{Long, long-join}
 use Rattle.fair.proofs.Back as back
 use Rattle.fair.proofs.Back.{Whole, part-length}
 use Rattle.fair.proofs.Find as finding

@@ -19,7 +19,7 @@ use Rattle.verdict.specs.declared.Outcome.{Outcome}
 use Rattle.verdict.specs.declared.Verdict.{Verdict}
 use Rattle.sender.specs.declared.Unit as unit
 use Rattle.sender.specs.declared.Name as sender-name
-use Rattle.counted.specs.Counted as counts
+use Rattle.cut_sources.specs.Counted as counts
 use Rattle.store.specs.Store.{Rows, rows}
 use Rattle.store.proofs.Places.{Same}
 use Rattle.head.specs.declared.Shedder.{Shedder}

@@ -15,10 +15,10 @@ use Rattle.sender.specs.declared.Name.{Name}
 use Rattle.sender.specs.Sender as sender
 use Rattle.store.specs.Store as store
 use Rattle.store.specs.Store.{Rows, rows}
-use Rattle.retain.specs.Retain.{Kept, kept, either, freed, moved, is-stale, retain-one, retained}
+use Rattle.store_retain.specs.Retain.{Kept, kept, either, freed, moved, is-stale, retain-one, retained}
 use Rattle.wants.specs.Wants.{Hist}
-use Rattle.counted.specs.Counted as counts
-use Rattle.counted.proofs.Tagged.{count-long, pruned-long}
+use Rattle.cut_sources.specs.Counted as counts
+use Rattle.cut_sources.proofs.Tagged.{count-long, pruned-long}
 use Rattle.head.specs.declared.Shedder.{Shedder}
 use Rattle.head.specs.declared.Cause.{Cause}
 use Rattle.fair.specs.Given as shed

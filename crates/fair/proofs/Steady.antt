@@ -16,10 +16,10 @@ use Rattle.sender.specs.declared.Unit as unit
 use Rattle.sender.specs.declared.Words.{Words}
 use Rattle.sender.specs.declared.Name.{Name}
 use Rattle.sender.specs.Sender as sender
-use Rattle.counted.specs.Counted as counts
+use Rattle.cut_sources.specs.Counted as counts
 use Rattle.store.specs.Store.{Rows, rows}
-use Rattle.counted.specs.Counted.{Sources, sources}
-use Rattle.counted.proofs.Pruning.{prune-none, prune-next, frees-so}
+use Rattle.cut_sources.specs.Counted.{Sources, sources}
+use Rattle.cut_sources.proofs.Pruning.{prune-none, prune-next, frees-so}
 use Rattle.wants.specs.Wants as wants
 use Rattle.wants.specs.Wants.{Hist}
 use Rattle.head.specs.declared.Shedder.{Shedder}

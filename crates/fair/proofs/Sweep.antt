@@ -9,10 +9,10 @@ use mathlib.Core.List.{List, [], _∷_, _++_, map}
 use lib.ListN.{length, getD}
 use Rattle.store.specs.Store.{Rows, rows, words-at, use-at}
 use Rattle.store.proofs.Places.{Same}
-use Rattle.retain.specs.Retain.{Kept, retained}
-use Rattle.retain.specs.Laws.{Record, record-at as lent-at, stale as lent-stale, choose as lent-choose, records, without}
-use Rattle.retain.proofs.Places.{Long}
-use Rattle.retain.proofs.Laws.{later, retains}
+use Rattle.store_retain.specs.Retain.{Kept, retained}
+use Rattle.store_retain.specs.Laws.{Record, record-at as lent-at, stale as lent-stale, choose as lent-choose, records, without}
+use Rattle.store_retain.proofs.Places.{Long}
+use Rattle.store_retain.proofs.Laws.{later, retains}
 use Rattle.fair.proofs.View as view
 
 -- the first n rows of words are each so many words wide

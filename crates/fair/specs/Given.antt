@@ -7,15 +7,15 @@ pub use Rattle.head.specs.Start.{Beginning, start-ends}
 unfoldable pub use Rattle.head.specs.Start.{buckets, first-levels, opening, start}
 unfoldable pub use Rattle.head.specs.Readings.{index-of, visited as visited-tables, cut-batches, level-read, rate-read, is-bounded}
 unfoldable pub use Rattle.head.specs.Answers.{judge-number, cut-number, reading-number, level-number, rate-number, bounded-number}
-pub use Rattle.trim.specs.Trimming.{trims-at}
-unfoldable pub use Rattle.trim.specs.Trimming.{opens, levels, trimmed}
+pub use Rattle.scan_trim.specs.Trimming.{trims-at}
+unfoldable pub use Rattle.scan_trim.specs.Trimming.{opens, levels, trimmed}
 pub use Rattle.scan.specs.Scanning.{Scanning, scanning, Started, started, ended-at, scanned-from}
 unfoldable pub use Rattle.scan.specs.Scanning.{visited, visit, again, ended, opened, begun, scanned}
-pub use Rattle.entry.specs.Entering.{Entered, entered, place, headed}
-unfoldable pub use Rattle.entry.specs.Entering.{is-misplaced, entry, used-at, put-back}
-pub use Rattle.tally.specs.Counting.{Tally, tally, source-tags}
-unfoldable pub use Rattle.tally.specs.Counting.{cause-of, added, tallied, told}
-pub use Rattle.shed.specs.Judging.{Through, passing, outcome-at, Memory, memory, Judged, judge-ends}
-unfoldable pub use Rattle.shed.specs.Judging.{rank-at, outcome, flowed, judged, answer-of, bounded, judge}
+pub use Rattle.store_entry.specs.Entering.{Entered, entered, place, headed}
+unfoldable pub use Rattle.store_entry.specs.Entering.{is-misplaced, entry, used-at, put-back}
+pub use Rattle.cut_counts.specs.Counting.{Tally, tally, source-tags}
+unfoldable pub use Rattle.cut_counts.specs.Counting.{cause-of, added, tallied, told}
+pub use Rattle.judge.specs.Judging.{Through, passing, outcome-at, Memory, memory, Judged, judge-ends}
+unfoldable pub use Rattle.judge.specs.Judging.{rank-at, outcome, flowed, judged, answer-of, bounded, judge}
 pub use Rattle.cut.specs.Cutting.{KeptBy, kept-by, handed-at, Cut, cut-ends, cut-after}
 unfoldable pub use Rattle.cut.specs.Cutting.{hands-back, flowed-back, handed-back, noted, cut}

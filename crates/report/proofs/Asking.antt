@@ -17,7 +17,7 @@ use Rattle.head.specs.Questions.{head-whole, memory-whole, costs-held, cut-aske
 use Rattle.head.proofs.Asked.{cut-ready}
 use Rattle.head.specs.declared.Written.{Written}
 use Rattle.head.specs.declared.Written.the-variants.{Bytes, Refused}
-use Rattle.lines.specs.Lines.{text}
+use Rattle.report_lines.specs.Lines.{text}
 use Rattle.head.specs.Answers.{written-number}
 use Rattle.report.specs.Report.{bytes, report-asked, choose, answer, front, Ends, ends, report}
 

@@ -8,7 +8,7 @@ use Rattle.head.specs.declared.Shedder.{Shedder}
 use Rattle.head.specs.Questions.{head-whole, memory-whole}
 use Rattle.head.specs.declared.Written.{Written}
 use Rattle.head.specs.declared.Written.the-variants.{Bytes, Refused}
-use Rattle.lines.specs.Lines.{text}
+use Rattle.report_lines.specs.Lines.{text}
 
 -- ---- the bytes written
 abbrev pub bytes : Written → ℕ

@@ -7,8 +7,8 @@ ghost use Rattle.report.specs.Report as reports;
 use flow::DIMS;
 use head::Shedder;
 use head::Written;
-use lines::TEXT_MOST;
-use lines::write_text;
+use report_lines::TEXT_MOST;
+use report_lines::write_text;
 
 fn bytes(w: Written) -> usize
     ensures { λ r. ⌜ r ≡ reports.bytes w ⌝ }

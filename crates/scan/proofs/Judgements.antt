@@ -9,7 +9,7 @@ use borrow.Author.Tests.{le-leb, lt-leb, le-ltb, lt-ltb, eq-eqb, ne-eqb}
 use Rattle.wants.specs.Wants.{Hist, cleared}
 use Rattle.head.specs.declared.Shedder.{Shedder}
 use Rattle.head.specs.Numbers.{choose}
-use Rattle.trim.specs.Trimming.{trimmed}
+use Rattle.scan_trim.specs.Trimming.{trimmed}
 use Rattle.scan.specs.Walking.{walk-overflow}
 use Rattle.scan.specs.Scanning.{Scanning, scanning, visited, visit, again, ended, ended-at, opened, begun, scanned, is-idle}
 use Rattle.scan.specs.Laws.{Judgement, begins, goes-on, held, sweep, begins-with, Keeps, Stores, Place, Visits}

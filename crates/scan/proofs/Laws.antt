@@ -2,13 +2,13 @@
 use mathlib.Core.Bool.{Bool, true, false}
 use Prim.Native.Nat.{ℕ, _+_}
 use lib.Dec.{leb, ltb}
-use Rattle.retain.specs.Retain.{retained}
+use Rattle.store_retain.specs.Retain.{retained}
 use Rattle.wants.specs.Wants.{Hist, cleared}
 use Rattle.head.specs.declared.Shedder.{Shedder}
 use Rattle.head.specs.Numbers.{choose}
-use Rattle.trim.specs.Trimming.{trimmed}
-use Rattle.trim.specs.Laws.{Rates, Trims, Levels}
-use Rattle.trim.proofs.Laws.{trim-law, level-law}
+use Rattle.scan_trim.specs.Trimming.{trimmed}
+use Rattle.scan_trim.specs.Laws.{Rates, Trims, Levels}
+use Rattle.scan_trim.proofs.Laws.{trim-law, level-law}
 use Rattle.scan.specs.Scanning.{Scanning, Started, scanning, visited, visit, again, ended, ended-at, opened, started, begun, scanned, scanned-from}
 use Rattle.scan.specs.Laws.{Stays, Scans}
 use Rattle.scan.proofs.Judgements.{ended-by, visits-two, rests}

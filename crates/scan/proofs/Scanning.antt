@@ -6,8 +6,8 @@ use native.Mathlib.Omega.{arith}
 use lib.Dec.{leb, ltb}
 use Rattle.store.specs.Store.{Rows, None}
 use Rattle.store.proofs.Places.{Same}
-use Rattle.retain.specs.Retain.{Kept, kept, is-stale, retained}
-use Rattle.retain.proofs.Places.{retained-before}
+use Rattle.store_retain.specs.Retain.{Kept, kept, is-stale, retained}
+use Rattle.store_retain.proofs.Places.{retained-before}
 use Rattle.scan.proofs.Turns.{walk-same}
 use Rattle.wants.specs.Wants.{Hist, cleared}
 use Rattle.head.specs.declared.Shedder.{Shedder}

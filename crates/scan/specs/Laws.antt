@@ -5,15 +5,15 @@ use Prim.Native.Nat.{ℕ, zero, suc, _+_, _*_, _%_, _^_, _≤_, _<_}
 use lib.Dec.{eqb}
 use Rattle.flow.specs.Flow.{numbers, is-fresh}
 use Rattle.flow.specs.declared.Use.{Use}
-use Rattle.retain.specs.Retain.{retained}
+use Rattle.store_retain.specs.Retain.{retained}
 use Rattle.store.specs.Store.{Rows}
 use Rattle.wants.specs.Wants.{Hist, cleared}
 use Rattle.head.specs.declared.Scan.{Scan}
 use Rattle.head.specs.declared.Shedder.{Shedder}
 use Rattle.head.specs.Numbers.{choose}
 use Rattle.scan.specs.Walking.{walk-use, walk}
-use Rattle.trim.specs.Trimming.{levels, opens, trims-at}
-use Rattle.trim.specs.Laws.{Rates, Trims, Levels}
+use Rattle.scan_trim.specs.Trimming.{levels, opens, trims-at}
+use Rattle.scan_trim.specs.Laws.{Rates, Trims, Levels}
 use Rattle.scan.specs.Scanning.{Scanning, scanned}
 
 -- ---- what stays over a judgement: trims in 0.5 to 1, of a head whose rates are u64; levels of at least 1

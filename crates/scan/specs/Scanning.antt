@@ -2,14 +2,14 @@
 use Prim.Native.Nat.{ℕ, _+_, _-_, _^_, _%_}
 use mathlib.Core.Bool.{Bool, false, cond}
 use lib.Dec.{eqb, leb, ltb}
-use Rattle.retain.specs.Retain.{Kept, retained}
+use Rattle.store_retain.specs.Retain.{Kept, retained}
 use Rattle.store.specs.Store.{Rows}
 use Rattle.wants.specs.Wants as wants
 use Rattle.wants.specs.Wants.{Hist}
 use Rattle.head.specs.declared.Shedder.{Shedder}
 use Rattle.head.specs.Numbers.{choose}
 use Rattle.scan.specs.Walking.{walk-overflow, walk}
-use Rattle.trim.specs.Trimming.{scan-then, trimmed}
+use Rattle.scan_trim.specs.Trimming.{scan-then, trimmed}
 
 -- what a scan works on
 pub record Scanning : Type 0 where

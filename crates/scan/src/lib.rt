@@ -4,7 +4,7 @@ ghost use mathlib.Core.Bool.{true};
 ghost use Prim.Native.Nat.{_<_, _≤_, _+_};
 ghost use lib.ListN.{length};
 ghost use Rattle.store.specs.Store as store;
-ghost use Rattle.retain.specs.Retain as retain;
+ghost use Rattle.store_retain.specs.Retain as retain;
 ghost use Rattle.wants.specs.Wants as wants;
 ghost use Rattle.head.specs.Numbers as numbers;
 ghost use Rattle.scan.specs.Walking as walking;
@@ -86,13 +86,13 @@ fn walk_to_stale(
     ensures { λ r. ⌜ store.None (retain.is-stale (now (tags .entry)) (now (units .entry)) table «at_ms») 0 r ⌝ }
     ensures { λ r. ⌜ (wants.hist (now (counts .exit)) (now (sums .exit))) ≡ walking.walk (store.rows (now (tags .entry)) (now (units .entry)) (now (uses .entry))) table «at_ms» r (wants.hist (now (counts .entry)) (now (sums .entry))) ⌝ }
 {
-    let mut i = search::next_in(tags, 0, n, table);
+    let mut i = store_search::next_in(tags, 0, n, table);
     while i < n {
-        if retain::is_stale(tags, units, i, table, at_ms) {
+        if store_retain::is_stale(tags, units, i, table, at_ms) {
             return i;
         }
         walk_one(tags, units, uses, counts, sums, i, table, at_ms);
-        i = search::next_in(tags, i + 1, n, table);
+        i = store_search::next_in(tags, i + 1, n, table);
     }
     i
 }
@@ -115,10 +115,10 @@ fn walk(
     requires { ⌜ n ≤ length (now uses) ⌝ }
     ensures { λ r. ⌜ ((g : wants.Hist) → wants.hist (now (counts .entry)) (now (sums .entry)) ≡ walking.walk (store.rows (now (tags .entry)) (now (units .entry)) (now (uses .entry))) table «at_ms» from g → wants.hist (now (counts .exit)) (now (sums .exit)) ≡ walking.walk (store.rows (now (tags .entry)) (now (units .entry)) (now (uses .entry))) table «at_ms» n g) ⌝ }
 {
-    let mut i = search::next_in(tags, from, n, table);
+    let mut i = store_search::next_in(tags, from, n, table);
     while i < n {
         walk_one(tags, units, uses, counts, sums, i, table, at_ms);
-        i = search::next_in(tags, i + 1, n, table);
+        i = store_search::next_in(tags, i + 1, n, table);
     }
 }
 
@@ -160,7 +160,7 @@ fn swept(
 {
     walk_overflow(counts, sums, overflow, table, at_ms);
     let i = walk_to_stale(tags, units, uses, counts, sums, tracked, table, at_ms);
-    let n = retain::retain(tags, units, uses, i, tracked, table, at_ms);
+    let n = store_retain::retain(tags, units, uses, i, tracked, table, at_ms);
     walk(tags, units, uses, counts, sums, i, n, table, at_ms);
     n
 }
@@ -238,7 +238,7 @@ fn ended(h: Shedder, counts: &[[u32; 768]; DIMS], sums: &[[f64; 768]; DIMS]) -> 
 {
     let s = h.scan;
     if s.remaining == 0 {
-        trim::trimmed(h, counts, sums)
+        scan_trim::trimmed(h, counts, sums)
     } else {
         h
     }

@@ -3,9 +3,9 @@ use flow::DIMS;
 use libc::STDERR_FILENO;
 use libc::STDIN_FILENO;
 use libc::STDOUT_FILENO;
-use script::FEED;
-use script::LINE;
-use script::front;
+use trial_script::FEED;
+use trial_script::LINE;
+use trial_script::front;
 use trial::COUNTED;
 use trial::TAGS;
 use trial::Trial;
@@ -103,7 +103,7 @@ fn block(
         if x == FEED {
             s = ended(s, tags, units, uses, counts, sums, counted, line, page);
         } else {
-            s.len = script::keep(line, s.len, x);
+            s.len = trial_script::keep(line, s.len, x);
         }
         i += 1;
     }

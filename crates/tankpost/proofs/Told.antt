@@ -10,14 +10,14 @@ use Rattle.head.specs.declared.Cause.{Cause}
 use Rattle.head.specs.declared.Starting.{Starting}
 use Rattle.head.specs.Answers.{start-number, cut-number}
 use Rattle.head.specs.Start as starts
-use Rattle.shed.specs.declared.Judgement.{Judgement}
+use Rattle.judge.specs.declared.Judgement.{Judgement}
 use Rattle.cut.specs.declared.Cutting.{Cutting}
-use Rattle.shed.specs.Judging as judging
+use Rattle.judge.specs.Judging as judging
 use Rattle.cut.specs.Cutting as cutting
 use Rattle.head.specs.declared.Written.{Written}
 use Rattle.report.specs.Report as reports
-use Rattle.numbers.specs.declared.Count.{Count}
-use Rattle.numbers.specs.Numbers.{judge-code, read-written}
+use Rattle.codes.specs.declared.Count.{Count}
+use Rattle.codes.specs.Numbers.{judge-code, read-written}
 use Rattle.tankpost.specs.Calls.{start-ends, start-told, judge-ends, judge-told, cut-ends, cut-told, reported, report-told}
 
 pub start-tells : (s : Starting) (g : Hist) (b : starts.Beginning) (n : ℕ) → starts.beginning s g ≡ b → n ≡ start-number (s .answer)

@@ -6,11 +6,11 @@ use Rattle.wants.specs.Wants.{Hist}
 use Rattle.head.specs.declared.Shedder.{Shedder}
 use Rattle.head.specs.Answers.{start-number, cut-number}
 use Rattle.head.specs.Start as starts
-use Rattle.shed.specs.Judging as judging
+use Rattle.judge.specs.Judging as judging
 use Rattle.cut.specs.Cutting as cutting
 use Rattle.report.specs.Report as reports
-use Rattle.numbers.specs.declared.Count.{Count}
-use Rattle.numbers.specs.Numbers.{judge-code, read-written}
+use Rattle.codes.specs.declared.Count.{Count}
+use Rattle.codes.specs.Numbers.{judge-code, read-written}
 use Rattle.tankpost.specs.declared.Answered.{Answered}
 
 -- ---- a start writes the histogram

@@ -9,15 +9,15 @@ ghost use Rattle.wants.specs.Wants as wants;
 ghost use Rattle.head.specs.Start as starts;
 ghost use Rattle.head.specs.Readings as readings;
 ghost use Rattle.head.specs.Bits.{Same-but-nan-bits};
-ghost use Rattle.shed.specs.Judging as judging;
+ghost use Rattle.judge.specs.Judging as judging;
 ghost use Rattle.cut.specs.Cutting as cutting;
 ghost use Rattle.report.specs.Report as reports;
-ghost use Rattle.numbers.specs.Numbers as numbers;
+ghost use Rattle.codes.specs.Numbers as numbers;
 ghost use Rattle.tankpost.specs.Calls as calls;
 use flow::DIMS;
 use head::Shedder;
-use numbers::Count;
-use numbers::Level;
+use codes::Count;
+use codes::Level;
 use sender::Words;
 
 // A call's answer as a number (crate numbers), and the head after it.
@@ -56,12 +56,12 @@ pub extern "C" fn tankpost_start(
     let answer = s.answer;
     let h = s.head;
     Answered {
-        answer: numbers::start_number(answer),
+        answer: codes::start_number(answer),
         head: h,
     }
 }
 
-// shed::judge of the unit that the words give: 0 admitted, 16 over-share, 17 relay-rate, or the number of the refusal.
+// judge::judge of the unit that the words give: 0 admitted, 16 over-share, 17 relay-rate, or the number of the refusal.
 #[no_mangle]
 pub extern "C" fn tankpost_judge(
     head: Shedder,
@@ -77,7 +77,7 @@ pub extern "C" fn tankpost_judge(
 ) -> Answered
     ensures { λ r. ⌜ Same-but-nan-bits (calls.judged r (judging.memory (store.rows (now (tags .exit)) (now (units .exit)) (now (uses .exit))) (wants.hist (now (counts .exit)) (now (sums .exit))) (now (counted .exit)))) (calls.judge-told (judging.judge head (judging.memory (store.rows (now (tags .entry)) (now (units .entry)) (now (uses .entry))) (wants.hist (now (counts .entry)) (now (sums .entry))) (now (counted .entry))) (sender.unit-of unit) (now (cost .entry)) stamp)) ⌝ }
 {
-    let j = shed::judge(
+    let j = judge::judge(
         head,
         tags,
         units,
@@ -92,7 +92,7 @@ pub extern "C" fn tankpost_judge(
     let answer = j.answer;
     let h = j.head;
     Answered {
-        answer: numbers::judge_code(answer),
+        answer: codes::judge_code(answer),
         head: h,
     }
 }
@@ -118,13 +118,13 @@ pub extern "C" fn tankpost_cut(
         uses,
         counted,
         sender::unit_of(unit),
-        numbers::cause_of(cause),
+        codes::cause_of(cause),
         *cost,
     );
     let answer = c.answer;
     let h = c.head;
     Answered {
-        answer: numbers::cut_number(answer),
+        answer: codes::cut_number(answer),
         head: h,
     }
 }
@@ -142,7 +142,7 @@ pub extern "C" fn tankpost_report(
     ensures { λ r. ⌜ calls.reported r (now (out .exit)) ≡ calls.report-told (reports.report head (length (now (tags .entry))) (length (now (units .entry))) (length (now (uses .entry))) (now (counted .entry)) (now (out .entry))) ⌝ }
 {
     let w = report::write_report(head, tags, units, uses, counted, out);
-    numbers::read_written(w)
+    codes::read_written(w)
 }
 
 // report::report_refusal: the number of the refusal, 0 where the report would be written.
@@ -166,21 +166,21 @@ pub extern "C" fn tankpost_report_refusal(
 pub extern "C" fn tankpost_visited(head: Shedder) -> Count
     ensures { λ r. ⌜ r ≡ numbers.read-count (readings.visited head) ⌝ }
 {
-    numbers::read_count(readings::visited(head))
+    codes::read_count(head_readings::visited(head))
 }
 
 #[no_mangle]
 pub extern "C" fn tankpost_cut_batches(head: Shedder, cause: u64) -> Count
     ensures { λ r. ⌜ r ≡ numbers.read-count (readings.cut-batches head (numbers.cause-of cause)) ⌝ }
 {
-    numbers::read_count(readings::cut_batches(head, numbers::cause_of(cause)))
+    codes::read_count(head_readings::cut_batches(head, codes::cause_of(cause)))
 }
 
 #[no_mangle]
 pub extern "C" fn tankpost_level(head: Shedder, dim: u64) -> Level
     ensures { λ r. ⌜ Same-but-nan-bits r (numbers.read-level (readings.level-read head (numbers.dim-of dim))) ⌝ }
 {
-    numbers::read_level(readings::level(head, numbers::dim_of(dim)))
+    codes::read_level(head_readings::level(head, codes::dim_of(dim)))
 }
 
 // An unbounded relay's rate reads u64::MAX.
@@ -188,7 +188,7 @@ pub extern "C" fn tankpost_level(head: Shedder, dim: u64) -> Level
 pub extern "C" fn tankpost_rate(head: Shedder, dim: u64) -> Count
     ensures { λ r. ⌜ r ≡ numbers.read-rate (readings.rate-read head (numbers.dim-of dim)) ⌝ }
 {
-    numbers::read_rate(readings::rate(head, numbers::dim_of(dim)))
+    codes::read_rate(head_readings::rate(head, codes::dim_of(dim)))
 }
 
 // 1 for a bounded relay, 0 for an unbounded one.
@@ -196,5 +196,5 @@ pub extern "C" fn tankpost_rate(head: Shedder, dim: u64) -> Count
 pub extern "C" fn tankpost_is_bounded(head: Shedder) -> Count
     ensures { λ r. ⌜ r ≡ numbers.read-bounded (readings.is-bounded head) ⌝ }
 {
-    numbers::read_bounded(readings::is_bounded(head))
+    codes::read_bounded(head_readings::is_bounded(head))
 }

@@ -12,19 +12,19 @@ use Rattle.wants.specs.Wants.{Hist}
 use Rattle.head.specs.declared.Shedder.{Shedder}
 use Rattle.head.specs.declared.Starting.{Starting}
 use Rattle.head.specs.Start as starts
-use Rattle.shed.specs.declared.Judgement.{Judgement}
+use Rattle.judge.specs.declared.Judgement.{Judgement}
 use Rattle.cut.specs.declared.Cutting.{Cutting}
-use Rattle.shed.specs.Judging as judging
-use Rattle.shed.specs.Judging.{Memory, memory, Judged}
+use Rattle.judge.specs.Judging as judging
+use Rattle.judge.specs.Judging.{Memory, memory, Judged}
 use Rattle.cut.specs.Cutting as cutting
-use Rattle.lines.specs.Lines.{text}
+use Rattle.report_lines.specs.Lines.{text}
 use Rattle.report.specs.Report.{report-asked, front, choose}
-use Rattle.script.specs.declared.StartLine.{StartLine}
-use Rattle.script.specs.declared.JudgeLine.{JudgeLine}
-use Rattle.script.specs.declared.CutLine.{CutLine}
-use Rattle.script.specs.declared.Line as script
-use Rattle.script.specs.Script.{line}
-use Rattle.script.specs.Answers.{refused-text, begin-text, answer-text, done-text}
+use Rattle.trial_script.specs.declared.StartLine.{StartLine}
+use Rattle.trial_script.specs.declared.JudgeLine.{JudgeLine}
+use Rattle.trial_script.specs.declared.CutLine.{CutLine}
+use Rattle.trial_script.specs.declared.Line as script
+use Rattle.trial_script.specs.Script.{line}
+use Rattle.trial_script.specs.Answers.{refused-text, begin-text, answer-text, done-text}
 use Rattle.trial.specs.Trial.{State, of-dims, refused, has-begun, begun, start, judged, judge, counted, cut, asked, reported, report, call, answer}
 
 abbrev pub made : Shedder → Bool → Memory → Page → State

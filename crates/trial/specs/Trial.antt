@@ -9,19 +9,19 @@ use Rattle.head.specs.declared.Shedder.{Shedder}
 use Rattle.head.specs.declared.Begin as begin
 use Rattle.head.specs.declared.Begin.the-variants.{Started, Refused}
 use Rattle.head.specs.Start as starts
-use Rattle.shed.specs.Judging as judging
-use Rattle.shed.specs.Judging.{Memory, memory, Judged}
+use Rattle.judge.specs.Judging as judging
+use Rattle.judge.specs.Judging.{Memory, memory, Judged}
 use Rattle.cut.specs.Cutting as cutting
-use Rattle.lines.specs.Lines.{text}
+use Rattle.report_lines.specs.Lines.{text}
 use Rattle.report.specs.Report.{report-asked}
-use Rattle.script.specs.declared.Amounts.{Amounts}
-use Rattle.script.specs.declared.StartLine.{StartLine}
-use Rattle.script.specs.declared.JudgeLine.{JudgeLine}
-use Rattle.script.specs.declared.CutLine.{CutLine}
-use Rattle.script.specs.declared.Line as script
-use Rattle.script.specs.declared.Line.the-variants.{Start, Judge, Cut, Report, Nothing}
-use Rattle.script.specs.Script.{line}
-use Rattle.script.specs.Answers.{refused-text, begin-text, answer-text, done-text}
+use Rattle.trial_script.specs.declared.Amounts.{Amounts}
+use Rattle.trial_script.specs.declared.StartLine.{StartLine}
+use Rattle.trial_script.specs.declared.JudgeLine.{JudgeLine}
+use Rattle.trial_script.specs.declared.CutLine.{CutLine}
+use Rattle.trial_script.specs.declared.Line as script
+use Rattle.trial_script.specs.declared.Line.the-variants.{Start, Judge, Cut, Report, Nothing}
+use Rattle.trial_script.specs.Script.{line}
+use Rattle.trial_script.specs.Answers.{refused-text, begin-text, answer-text, done-text}
 use Rattle.trial.specs.declared.Trial as trial
 
 -- the shedder, whether one was started, the lent memory, and the answers so far

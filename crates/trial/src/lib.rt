@@ -3,7 +3,7 @@ ghost use mathlib.Core.Path.{_≡_};
 ghost use mathlib.Core.Bool.{true, false};
 ghost use Rattle.store.specs.Store.{rows};
 ghost use Rattle.wants.specs.Wants.{Hist, hist};
-ghost use Rattle.shed.specs.Judging.{Memory, memory};
+ghost use Rattle.judge.specs.Judging.{Memory, memory};
 ghost use Rattle.trial.specs.Trial as trial;
 use flow::Bucket;
 use flow::DIMS;
@@ -13,12 +13,12 @@ use head::CAUSES;
 use head::Flow;
 use head::Scan;
 use head::Shedder;
-use script::Amounts;
-use script::CutLine;
-use script::JudgeLine;
-use script::LINE_MOST;
-use script::Line;
-use script::StartLine;
+use trial_script::Amounts;
+use trial_script::CutLine;
+use trial_script::JudgeLine;
+use trial_script::LINE_MOST;
+use trial_script::Line;
+use trial_script::StartLine;
 
 // The trial's sizes: unit records, counted records, the report's buffer.
 pub const UNITS: usize = 256;
@@ -110,7 +110,7 @@ fn refused(mut t: Trial, out: &mut [u8], n: u64) -> Trial
     ensures { λ r. ⌜ ((m : Memory) → trial.state r m (now (out .exit)) ≡ trial.refused (trial.state t m (now (out .entry))) n) ⌝ }
 {
     let at = t.at;
-    t.at = script::put_refused(out, at, n);
+    t.at = trial_script::put_refused(out, at, n);
     t
 }
 
@@ -141,7 +141,7 @@ fn start(
     );
     let answer = s.answer;
     let head = s.head;
-    let at = script::put_begin(out, t.at, answer);
+    let at = trial_script::put_begin(out, t.at, answer);
     Trial {
         head,
         is_started: has_begun(t.is_started, answer),
@@ -167,7 +167,7 @@ fn judge(
     }
     let was = t.head;
     let unit = l.unit;
-    let j = shed::judge(
+    let j = judge::judge(
         was,
         tags,
         units,
@@ -181,7 +181,7 @@ fn judge(
     );
     let answer = j.answer;
     let head = j.head;
-    let at = script::put_answer(out, t.at, answer);
+    let at = trial_script::put_answer(out, t.at, answer);
     Trial {
         head,
         is_started: true,
@@ -218,7 +218,7 @@ fn cut(
     );
     let answer = c.answer;
     let head = c.head;
-    let at = script::put_done(out, t.at, answer);
+    let at = trial_script::put_done(out, t.at, answer);
     Trial {
         head,
         is_started: true,
@@ -268,7 +268,7 @@ pub fn answer(
     if line.len() > LINE_MOST {
         return refused(t, out, NO_FORM);
     }
-    let l = script::read_line(line);
+    let l = trial_script::read_line(line);
     match l {
         Line::Start(s) => start(t, tags, units, uses, counts, sums, counted, s, out),
         Line::Judge(j) => judge(t, tags, units, uses, counts, sums, counted, j, out),

@@ -1,8 +1,8 @@
 use mathlib.Core.Path.{refl, sym, ap, _∙_}
 use borrow.Author.Tests.{eq-eqb, ne-eqb}
 use mathlib.Core.Bool.{true≢false}
-use Rattle.entry.specs.Entering.{is-misplaced}
-use Rattle.entry.proofs.Nine.{never-nine}
+use Rattle.store_entry.specs.Entering.{is-misplaced}
+use Rattle.store_entry.proofs.Nine.{never-nine}
 use Rattle.cut.specs.Cutting.{cut, handed-back}
 use Rattle.head.specs.Answers.{cut-number}
 use native.Mathlib.Nat.{le-refl}

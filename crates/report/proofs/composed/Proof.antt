@@ -2,7 +2,7 @@
 use mathlib.Core.Path.{_≡_, refl, sym, ap, _∙_}
 use native.Mathlib.Omega.{arith}
 use lib.ListN.{length}
-use Rattle.lines.specs.Lines.{text}
+use Rattle.report_lines.specs.Lines.{text}
 use Rattle.head.specs.declared.Written.the-variants.{Bytes}
 use Rattle.report.proofs.Asking.{counted-held, asked-head, asked-memory, asked-room, asked-none, refused, taken}
 use borrow.Author.Needs.{needs}

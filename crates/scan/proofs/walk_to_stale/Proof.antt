@@ -1,8 +1,8 @@
 use Rattle.scan.proofs.Turns.{walk-none, walk-next, walk-past}
 use Rattle.store.proofs.Steps.{none-next, none-join}
 use Rattle.store.specs.Store.{rows, None, in-table}
-use Rattle.retain.specs.Retain.{is-stale}
-use Rattle.retain.proofs.Steps.{no-table}
+use Rattle.store_retain.specs.Retain.{is-stale}
+use Rattle.store_retain.proofs.Steps.{no-table}
 use Rattle.wants.specs.Wants.{hist}
 use lib.ListN.{length}
 use Rattle.scan.specs.Walking.{walk, walk-one}

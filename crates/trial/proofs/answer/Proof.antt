@@ -4,7 +4,7 @@ use denote.Ref.{now}
 use native.Mathlib.Omega.{arith}
 use Rattle.store.specs.Store.{rows}
 use Rattle.wants.specs.Wants.{hist}
-use Rattle.shed.specs.Judging.{memory}
+use Rattle.judge.specs.Judging.{memory}
 use Rattle.trial.specs.Trial.{state, call}
 use Rattle.trial.proofs.Steps.{answer-long, answer-line}
 use borrow.Author.Needs.{needs}

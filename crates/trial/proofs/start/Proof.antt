@@ -2,7 +2,7 @@
 use denote.Ref.{now}
 use Rattle.store.specs.Store.{rows}
 use Rattle.wants.specs.Wants.{hist}
-use Rattle.shed.specs.Judging.{memory}
+use Rattle.judge.specs.Judging.{memory}
 use Rattle.trial.specs.Trial.{state}
 use Rattle.trial.proofs.Steps.{start-step}
 use borrow.Author.Needs.{needs}

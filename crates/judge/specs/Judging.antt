@@ -1,0 +1,133 @@
+-- A judgement: the questions, the record, the verdict, the counts, the scan. Definitions only.
+use Prim.Native.Nat.{ℕ, _-_, max}
+use mathlib.Core.Bool.{cond}
+use mathlib.Core.List.{List}
+use lib.Dec.{eqb, ltb}
+use lib.ListN.{length}
+use lib.Ieee as Ieee
+use lib.Ieee.{Float, binary64}
+use Rattle.flow.specs.Flow as flow
+use Rattle.verdict.specs.Verdict as verdicts
+use Rattle.flow.specs.Flow.{at, upto, zeros}
+use Rattle.verdict.specs.Verdict.{is-admitted}
+use Rattle.flow.specs.declared.Use.{Use}
+use Rattle.verdict.specs.declared.Outcome.{Outcome}
+use Rattle.verdict.specs.declared.Verdict.{Verdict}
+use Rattle.verdict.specs.declared.Verdict.the-variants as verdict
+use Rattle.sender.specs.declared.Unit as unit
+use Rattle.sender.specs.declared.Unit.the-variants as units
+use Rattle.sender.specs.Sender as sender
+use Rattle.store.specs.Store.{Rows, rows}
+use Rattle.wants.specs.Wants.{Hist}
+use Rattle.head.specs.declared.Flow.{Flow}
+use Rattle.head.specs.declared.Shedder.{Shedder}
+use Rattle.head.specs.declared.Answer.{Answer}
+use Rattle.head.specs.declared.Answer.the-variants as answer
+use Rattle.judge.specs.declared.Passed.{Passed}
+use Rattle.judge.specs.declared.Judgement.{Judgement}
+use Rattle.head.specs.Numbers.{dims, choose}
+use Rattle.head.specs.Questions.{is-unbounded, judge-asked}
+use Rattle.scan.specs.Scanning.{Scanning, scanning, scanned}
+use Rattle.store_entry.specs.Entering.{is-misplaced, Entered, entry, used-at, Back, put-back, headed}
+use Rattle.cut_counts.specs.Counting.{Tally, tally, told}
+
+-- what was admitted so far, and this cost
+unfoldable pub raised : List Float → List Float → List Float
+raised xs cost = upto (λ (d : ℕ). Ieee.add binary64 (at xs d) (at cost d)) dims zeros
+
+-- the rank of the record used: by the unit's hash, or overflow's
+unfoldable pub rank-at : ℕ → ℕ → ℕ → Float
+rank-at hash i room = cond (ltb i room) (sender.rank-of-hash hash) (sender.rank units.Overflow)
+
+-- the verdict on a use, the buckets refilled since the clock before, with the level as it stands before this call's scan
+unfoldable pub outcome : Flow → List Float → Use → Float → List Float → ℕ → Outcome
+outcome f level u rank cost now = verdicts.judged (f .buckets) u now (now - f .«at_ms») cost (flow.fills level (flow.numbers (f .rate))) level rank
+
+-- only an admission adds to it
+unfoldable pub admitted-then : Verdict → List Float → List Float → List Float
+admitted-then v admitted cost = choose (is-admitted v) (raised admitted cost) admitted
+
+-- the flow after a judgement: clock and buckets have moved, also where the batch is cut
+unfoldable pub flowed : Flow → Outcome → List Float → ℕ → Flow
+flowed f o cost now = record { rate = f .rate; ceiling = f .ceiling; buckets = o .buckets; «at_ms» = now; admitted = admitted-then (o .verdict) (f .admitted) cost }
+
+-- a verdict, the head and the rows
+pub record Through : Type 0 where
+  pub verdict : Verdict
+  pub head : Shedder
+  pub rows : Rows
+
+abbrev pub passed : Passed → Rows → Through
+passed p m = record { verdict = p .verdict; head = p .head; rows = m }
+
+-- with the record's place e, the use u found there, the outcome o, and what putting it back leaves
+abbrev pub passing : Shedder → ℕ → List Float → Entered → Outcome → Back → Through
+passing h now cost e o b = record {
+  verdict = o .verdict;
+  head = headed h (flowed (h .flow) o cost now) (b .overflow) (e .place .tracked);
+  rows = rows (e .rows .tags) (b .units) (b .uses);
+}
+
+-- the outcome at an entered place
+abbrev pub outcome-at : Shedder → unit.Unit → List Float → ℕ → Entered → Outcome
+outcome-at h u cost now e =
+    outcome (h .flow) (h .level) (used-at (e .rows .units) (e .rows .uses) (h .overflow) (e .place .at)) (rank-at (sender.hash-of u) (e .place .at) (h .«unit_room»)) cost now
+
+abbrev pub judged-at : Shedder → unit.Unit → List Float → ℕ → Entered → Through
+judged-at h u cost now e =
+    passing h now cost e (outcome-at h u cost now e) (put-back (e .rows .units) (e .rows .uses) (h .overflow) (e .place .at) (outcome-at h u cost now e .used))
+
+-- a judgement on the record that is found, added or overflow's
+unfoldable pub judged : Shedder → Rows → unit.Unit → List Float → ℕ → Through
+judged h m u cost now = judged-at h u cost now (entry m (h .tracked) (h .«unit_room») u now)
+
+-- the lent memory: the unit records, the histogram, the counted records
+pub record Memory : Type 0 where
+  pub rows : Rows
+  pub hist : Hist
+  pub counted : List (List ℕ)
+
+abbrev pub memory : Rows → Hist → List (List ℕ) → Memory
+memory m g rows = record { rows = m; hist = g; counted = rows }
+
+-- an answer, the head and the memory
+pub record Judged : Type 0 where
+  pub answer : Answer
+  pub head : Shedder
+  pub memory : Memory
+
+abbrev pub judgement : Judgement → Memory → Judged
+judgement j m = record { answer = j .answer; head = j .head; memory = m }
+
+abbrev pub judge-ends : Answer → Shedder → Memory → Judged
+judge-ends a h m = record { answer = a; head = h; memory = m }
+
+-- a verdict as an answer
+unfoldable pub answer-of : Verdict → Answer
+answer-of verdict.Admitted = answer.Admitted
+answer-of verdict.OverShare = answer.OverShare
+answer-of verdict.RelayRate = answer.RelayRate
+
+-- the answer, once the scan was made
+abbrev pub bounded-scanned : Answer → List (List ℕ) → Scanning → Judged
+bounded-scanned a counted s = judge-ends a (s .head) (memory (s .rows) (s .hist) counted)
+
+-- the scan, once the cut was counted
+abbrev pub bounded-told : Hist → ℕ → Through → Tally → Judged
+bounded-told g clock p t = bounded-scanned (answer-of (p .verdict)) (t .counted) (scanned (scanning (t .head) (rows (t .tags) (p .rows .units) (p .rows .uses)) g) clock)
+
+-- the count, under the unit named, once the verdict is there
+abbrev pub bounded-passed : Memory → unit.Unit → List ℕ → ℕ → Through → Judged
+bounded-passed m u cost clock p = bounded-told (m .hist) clock p (told (tally (p .head) (p .rows .tags) (m .counted)) (sender.name-of u) (p .verdict) cost)
+
+-- a judgement of a bounded relay: the clock is the later of stamp and clock; verdict, count and scan follow
+unfoldable pub bounded : Shedder → Memory → unit.Unit → List ℕ → ℕ → Judged
+bounded h m u cost stamp = bounded-passed m u cost (max stamp (h .flow .«at_ms»)) (judged h (m .rows) u (flow.numbers cost) (max stamp (h .flow .«at_ms»)))
+
+-- THE JUDGEMENT: the first question answered no gives its number and nothing changes; an unbounded relay admits, nothing changes, and 9 is not asked, since no record is sought
+unfoldable pub judge : Shedder → Memory → unit.Unit → List ℕ → ℕ → Judged
+judge h m u cost stamp =
+    choose (eqb (judge-asked h (length (m .rows .tags)) (length (m .rows .units)) (length (m .rows .uses)) (length (m .counted)) cost stamp) 0)
+    (choose (is-unbounded (h .flow .rate)) (judge-ends answer.Admitted h m)
+    (choose (is-misplaced (m .rows .tags) (m .rows .units) (h .tracked) (sender.name-of u)) (judge-ends (answer.Refused 9) h m) (bounded h m u cost stamp)))
+    (judge-ends (answer.Refused (judge-asked h (length (m .rows .tags)) (length (m .rows .units)) (length (m .rows .uses)) (length (m .counted)) cost stamp)) h m)

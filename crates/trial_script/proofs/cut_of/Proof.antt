@@ -1,0 +1,65 @@
+-- `cut_of` meets its contract.
+use mathlib.Core.Path.{sym}
+use Rattle.trial_script.specs.Script.{cut-of}
+use borrow.Author.Needs.{needs}
+use Rattle.trial_script.proofs.cut_of.Statement.{statement}
+use Rattle.trial_script.proofs.cut_of.Tie as tie
+
+first-requires : tie.Need-first-requires
+first-requires c κs = search needs
+
+is-cause-requires : tie.Need-is-cause-requires
+is-cause-requires c κs = search needs
+
+rest-requires : tie.Need-rest-requires
+rest-requires c κs = search needs
+
+are-numbers-requires : tie.Need-are-numbers-requires
+are-numbers-requires c κs = search needs
+
+unit-in-requires : tie.Need-unit-in-requires
+unit-in-requires c κs = search needs
+
+cause-in-requires : tie.Need-cause-in-requires
+cause-in-requires c κs = search needs
+
+amounts-at-requires : tie.Need-amounts-at-requires
+amounts-at-requires c κs = search needs
+
+returns : tie.Need-returns
+unfolding cut-of
+returns c =
+    simp (
+      sym (c .before .before .before .before .before .before .before .before .first .ensures),
+      sym (c .before .before .before .before .before .rest .ensures),
+      sym (c .before .before .before .before .before .before .before .is-cause .ensures),
+      c .before .before .before .before .before .before .if1 .taken,
+      sym (c .before .before .before .before .are-numbers .ensures),
+      c .before .before .before .if2 .taken,
+      sym (c .before .before .unit-in .ensures),
+      sym (c .before .cause-in .ensures),
+      sym (c .amounts-at .ensures),
+    )
+
+returns-2 : tie.Need-returns-2
+unfolding cut-of
+returns-2 c = simp (sym (c .before .before .before .before .before .first .ensures), sym (c .before .before .rest .ensures), sym (c .before .before .before .before .is-cause .ensures), c .before .before .before .if1 .taken, sym (c .before .are-numbers .ensures), c .if2 .left)
+
+returns-3 : tie.Need-returns-3
+unfolding cut-of
+returns-3 c = simp (sym (c .before .before .first .ensures), sym (c .before .is-cause .ensures), c .if1 .left)
+
+pub cut-of-spec : {M : Type 1} → statement M
+cut-of-spec =
+    tie.close
+    (tie.spec
+    first-requires
+    is-cause-requires
+    rest-requires
+    are-numbers-requires
+    unit-in-requires
+    cause-in-requires
+    amounts-at-requires
+    returns
+    returns-2
+    returns-3)
