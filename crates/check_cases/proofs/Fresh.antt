@@ -2,7 +2,7 @@
 use mathlib.Core.Path.{_≡_, refl, ap, _∙_}
 use Prim.Native.Nat.{ℕ, _-_}
 use native.Mathlib.Omega.{arith}
-use mathlib.Core.Bool.{Bool, true, false}
+use mathlib.Core.Bool.{Bool, true, false, cond}
 use mathlib.Core.List.{List}
 use lib.IntN.{pos}
 use lib.Ieee as Ieee
@@ -10,7 +10,7 @@ use lib.Ieee.{Float, fin, binary64, ofBits, ofInt}
 use Rattle.fade.specs.Fade.{fade}
 use Rattle.verdict.specs.declared.Verdict.the-variants.{RelayRate}
 use Rattle.flow.specs.Flow.{zeros, one, whole, at, each, upto, largest, all, added, opened, fills, refilled-all, credited}
-use Rattle.verdict.specs.Verdict.{want, covers, suffice, leaves, mark-of, pick, within, above, judged}
+use Rattle.verdict.specs.Verdict.{want, covers, suffice, leaves, mark-of, within, above, judged}
 use Rattle.verdict.proofs.Laws.{told}
 use Rattle.check_cases.specs.Cases.{buckets, rate, cost, fresh-want}
 
@@ -49,7 +49,7 @@ pub ten : opened 10 0 .tokens ≡ whole 10
 unfolding ofBits ofInt Ieee.lt Ieee.eq Ieee.ne
 ten = refl
 
-relayed : (w c t r : Bool) → w ≡ true → c ≡ true → t ≡ false → pick w (within c t) (above c t r) ≡ RelayRate
+relayed : (w c t r : Bool) → w ≡ true → c ≡ true → t ≡ false → cond w (within c t) (above c t r) ≡ RelayRate
 relayed w c t r e f g = rw (e, f, g)
 
 pub is-relayed : (now : ℕ) (rank : Float) → judged buckets (added now) now 0 cost (fills rate rate) rate rank .verdict ≡ RelayRate

@@ -5,9 +5,9 @@ use Prim.Native.Nat.{ℕ, _<_}
 use lib.ListN.{length, replicate, length-set, getD-replicate}
 use lib.Seq.{getD-set-same}
 use lib.Ieee.{Float, ofBits, ofInt, add, sub, mul, div, lt, le, eq}
-use Rattle.flow.specs.Flow.{nothing}
+use Rattle.flow.specs.Flow.{nothing, dims}
 use Rattle.wants.specs.Bucket.{bucket-of, reaches, largest}
-use Rattle.wants.specs.Wants.{dims, number, infinity, Hist, counts-of, sums-of, cleared, one-more, plus, added, counted, next, walked, found, level}
+use Rattle.wants.specs.Wants.{number, infinity, Hist, counts-of, sums-of, cleared, one-more, plus, added, counted, next, walked, found, level}
 use Rattle.check_cases.specs.Cases.{of-wants, level-of}
 
 row-counts : List Float → List ℕ → List ℕ

@@ -1,5 +1,6 @@
 -- The numbers by which calls answer, and take a cause or a dimension. Definitions only.
 -- A refused call answers document 01's number, 1 to 9. A call that was taken answers 0, but for the two verdicts that cut a batch: 16 and 17.
+use mathlib.Core.Bool.{cond}
 use Prim.Native.Nat.{ℕ}
 use lib.Dec.{eqb}
 use lib.Ieee.{binary64, ofBits}
@@ -17,7 +18,6 @@ use Rattle.head.specs.declared.RateRead.{RateRead}
 use Rattle.head.specs.declared.RateRead.the-variants as rate-reads
 use Rattle.head.specs.declared.BoundedRead.{BoundedRead}
 use Rattle.head.specs.declared.BoundedRead.the-variants as bounded-reads
-use Rattle.head.specs.Numbers.{choose}
 use Rattle.head.specs.declared.Written.{Written}
 use Rattle.head.specs.declared.Written.the-variants as written
 use Rattle.codes.specs.declared.Count.{Count}
@@ -32,11 +32,11 @@ judge-code (answer.Refused n) = n
 
 -- ---- a cause: 0 receiver-ceiling, 1 over-share, 2 and any other number relay-rate
 unfoldable pub cause-of : ℕ → Cause
-cause-of n = choose (eqb n 0) cause.ReceiverCeiling (choose (eqb n 1) cause.OverShare cause.RelayRate)
+cause-of n = cond (eqb n 0) cause.ReceiverCeiling (cond (eqb n 1) cause.OverShare cause.RelayRate)
 
 -- ---- a dimension: 0 receptions, 1 and any other number bytes
 unfoldable pub dim-of : ℕ → Dim
-dim-of n = choose (eqb n 0) dim.Receptions dim.Bytes
+dim-of n = cond (eqb n 0) dim.Receptions dim.Bytes
 
 -- ---- what is read: the refusal's number and 0, or 0 and the value
 abbrev pub count : ℕ → ℕ → Count

@@ -8,7 +8,7 @@ use lib.Ieee as Ieee
 use lib.Ieee.{Float, binary64}
 use Rattle.ieee.specs.Extremes.{most}
 use Rattle.flow.specs.Flow as flow
-use Rattle.flow.specs.Flow.{nothing, at, upto, zeros}
+use Rattle.flow.specs.Flow.{nothing, at, upto, zeros, dims}
 use Rattle.sender.specs.declared.Unit as unit
 use Rattle.sender.specs.declared.Name.{Name}
 use Rattle.sender.specs.Sender as sender
@@ -19,7 +19,6 @@ use Rattle.head.specs.declared.Cause.{Cause}
 use Rattle.head.specs.declared.Done.{Done}
 use Rattle.head.specs.declared.Done.the-variants as done
 use Rattle.cut.specs.declared.Cutting.{Cutting}
-use Rattle.head.specs.Numbers.{dims, choose}
 use Rattle.head.specs.Questions.{is-unbounded, cut-asked}
 use Rattle.head.specs.Readings.{index-of}
 use Rattle.store_entry.specs.Entering.{is-misplaced, Entered, entry, used-at, Back, put-back, headed}
@@ -95,8 +94,8 @@ cut-after k u c cost s = cut-noted (s .rows) (noted (tally (s .head) (s .rows .t
 -- THE CUT: the first question answered no gives its number and nothing changes; question 9 is asked where a record is sought
 unfoldable pub cut : Shedder → Rows → List (List ℕ) → unit.Unit → Cause → List ℕ → Cut
 cut h m k u c cost =
-    choose (eqb (cut-asked h (length (m .tags)) (length (m .units)) (length (m .uses)) (length k) cost) 0)
-    (choose (hands-back (h .flow .rate) c)
-    (choose (is-misplaced (m .tags) (m .units) (h .tracked) (sender.name-of u)) (cut-ends (done.Refused 9) h m k) (cut-after k u c cost (handed-back (kept-by h m) u (flow.numbers cost))))
+    cond (eqb (cut-asked h (length (m .tags)) (length (m .units)) (length (m .uses)) (length k) cost) 0)
+    (cond (hands-back (h .flow .rate) c)
+    (cond (is-misplaced (m .tags) (m .units) (h .tracked) (sender.name-of u)) (cut-ends (done.Refused 9) h m k) (cut-after k u c cost (handed-back (kept-by h m) u (flow.numbers cost))))
     (cut-after k u c cost (kept-by h m)))
     (cut-ends (done.Refused (cut-asked h (length (m .tags)) (length (m .units)) (length (m .uses)) (length k) cost)) h m k)

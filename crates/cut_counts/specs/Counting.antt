@@ -1,4 +1,5 @@
 -- The counts of cuts: batches and receptions by cause, and the sources. Definitions only.
+use mathlib.Core.Bool.{cond}
 use Prim.Native.Nat.{ℕ, _+_, _^_, _%_}
 use mathlib.Core.List.{List, _++_}
 use lib.ListN.{getD, set, take, drop}
@@ -8,7 +9,6 @@ use Rattle.verdict.specs.declared.Verdict.the-variants as verdict
 use Rattle.sender.specs.declared.Name.{Name}
 use Rattle.cut_sources.specs.Counted as counts
 use Rattle.head.specs.declared.Shedder.{Shedder}
-use Rattle.head.specs.Numbers.{choose}
 
 -- the place of a verdict's cause among the counts (of no use for an admission)
 unfoldable pub cause-of : Verdict → ℕ
@@ -76,4 +76,4 @@ tallied t name cause receptions =
 
 -- a verdict that cuts is counted
 unfoldable pub told : Tally → Name → Verdict → List ℕ → Tally
-told t name v cost = choose (is-admitted v) t (tallied t name (cause-of v) (getD cost 0 0))
+told t name v cost = cond (is-admitted v) t (tallied t name (cause-of v) (getD cost 0 0))

@@ -1,6 +1,6 @@
 -- Pruning leaves exactly the sources whose total is above k, in their order, with their tags, and zero bits behind them. Assumes nothing.
 use mathlib.Core.Path.{_≡_, refl, sym, ap, subst, _∙_}
-use mathlib.Core.Bool.{Bool, true, false}
+use mathlib.Core.Bool.{Bool, true, false, cond}
 use mathlib.Core.List.{List, [], _∷_, _++_, map}
 use Prim.Native.Nat.{ℕ, zero, suc, _+_, _%_, _^_, _≤_, _<_}
 use native.Mathlib.Numerals.{add-one}
@@ -12,7 +12,7 @@ use lib.Seq.{getD-set-same, getD-set-other}
 use borrow.Author.Tests.{lt-ltb, le-ltb, eq-eqb, ne-eqb}
 use Rattle.store.proofs.Places.{put-there}
 use Rattle.cut_sources.specs.Sorted.{one-if, sorted, below}
-use Rattle.cut_sources.specs.Counted.{Sources, sources, choose, either, row-put, total, total-at, totals, keep-from, free, prune, prune-one, pruned, tag-put, tag-moved, prune-tags, pruned-tags}
+use Rattle.cut_sources.specs.Counted.{Sources, sources, row-put, total, total-at, totals, keep-from, free, prune, prune-one, pruned, tag-put, tag-moved, prune-tags, pruned-tags}
 use Rattle.cut_sources.specs.Laws.{times, Sorts, at-quarter, Source, source-at, listed, zero-bits, sum, keep, above, Leaves, Prunes}
 use Rattle.cut_sources.proofs.Sorted.{below-sorted, sorted-entries}
 use Rattle.cut_sources.proofs.Pruning.{totals-next, prune-none, prune-next}
@@ -86,21 +86,17 @@ unfolding keep-from at-quarter
 quarter l = ap (λ (i : ℕ). getD (sorted l) i 0) (omega arith)
 
 -- ---- those left of one source more
-abbrev select : Bool → List Source → List Source → List Source
-select true a b = a
-select false a b = b
-
-keep-last : (b c : Bool) (x s : Source) (l : List Source) → keep b x (select c (l ++ (s ∷ [])) l) ≡ select c (keep b x l ++ (s ∷ [])) (keep b x l)
+keep-last : (b c : Bool) (x s : Source) (l : List Source) → keep b x (cond c (l ++ (s ∷ [])) l) ≡ cond c (keep b x l ++ (s ∷ [])) (keep b x l)
 keep-last true true x s l = refl
 keep-last true false x s l = refl
 keep-last false true x s l = refl
 keep-last false false x s l = refl
 
-above-end : (k : ℕ) (l : List Source) (s : Source) → above k (l ++ (s ∷ [])) ≡ select (ltb k (sum s)) (above k l ++ (s ∷ [])) (above k l)
+above-end : (k : ℕ) (l : List Source) (s : Source) → above k (l ++ (s ∷ [])) ≡ cond (ltb k (sum s)) (above k l ++ (s ∷ [])) (above k l)
 unfolding above
 above-end k [] s = go (ltb k (sum s))
   where
-    go : (b : Bool) → keep b s [] ≡ select b (s ∷ []) []
+    go : (b : Bool) → keep b s [] ≡ cond b (s ∷ []) []
     go true = refl
     go false = refl
 above-end k (x ∷ xs) s = ap (keep (ltb k (sum x)) x) (above-end k xs s) ∙ keep-last (ltb k (sum x)) (ltb k (sum s)) x s (above k xs)
@@ -149,11 +145,11 @@ module _ (tags : List ℕ) (rows : List (List ℕ)) (k : ℕ) where
     same-total = sym (sum-at ts (s .rows) n) ∙ ap sum (w .beyond n (omega arith))
 
     more : (b : Bool) → ltb k (sum (source-at tags rows n)) ≡ b
-        → above k (listed tags rows (n + 1)) ≡ select b (listed ts (s .rows) (s .count) ++ (source-at tags rows n ∷ [])) (listed ts (s .rows) (s .count))
+        → above k (listed tags rows (n + 1)) ≡ cond b (listed ts (s .rows) (s .count) ++ (source-at tags rows n ∷ [])) (listed ts (s .rows) (s .count))
     more b e =
         ap (above k) (listed-next tags rows n) ∙ above-end k (listed tags rows n) (source-at tags rows n)
-        ∙ ap (λ (c : Bool). select c (above k (listed tags rows n) ++ (source-at tags rows n ∷ [])) (above k (listed tags rows n))) e
-        ∙ ap (λ (l : List Source). select b (l ++ (source-at tags rows n ∷ [])) l) (sym (w .list))
+        ∙ ap (λ (c : Bool). cond c (above k (listed tags rows n) ++ (source-at tags rows n ∷ [])) (above k (listed tags rows n))) e
+        ∙ ap (λ (l : List Source). cond b (l ++ (source-at tags rows n ∷ [])) l) (sym (w .list))
 
     abbrev freed-tags : List ℕ
     freed-tags = set ts n 0
@@ -202,7 +198,7 @@ module _ (tags : List ℕ) (rows : List (List ℕ)) (k : ℕ) where
     step = by (ltb k (total-at (s .rows) n)) refl
       where
         by : (b : Bool) → ltb k (total-at (s .rows) n) ≡ b
-            → Passed (n + 1) (choose b (sources (s .count + 1) next-rows) (sources (s .count) freed-rows)) (either b next-tags freed-tags)
+            → Passed (n + 1) (cond b (sources (s .count + 1) next-rows) (sources (s .count) freed-rows)) (cond b next-tags freed-tags)
         by true e = step-moved (ap (ltb k) (sym same-total) ∙ e)
         by false e = step-freed (ap (ltb k) (sym same-total) ∙ e)
 
@@ -241,11 +237,11 @@ module _ (tags : List ℕ) (rows : List (List ℕ)) where
 
   full-rows : pruned all ≡ prune rows bar (length rows)
   unfolding pruned
-  full-rows = ap (λ (b : Bool). choose b all (prune rows bar (length rows))) (le-ltb _ (length rows) (omega arith))
+  full-rows = ap (λ (b : Bool). cond b all (prune rows bar (length rows))) (le-ltb _ (length rows) (omega arith))
 
   full-tags : pruned-tags all tags ≡ prune-tags tags rows bar (length rows)
   unfolding pruned-tags
-  full-tags = ap (λ (b : Bool). either b tags (prune-tags tags rows bar (length rows))) (le-ltb _ (length rows) (omega arith))
+  full-tags = ap (λ (b : Bool). cond b tags (prune-tags tags rows bar (length rows))) (le-ltb _ (length rows) (omega arith))
 
   full : length rows ≤ length tags → Leaves tags rows (length rows) (at-quarter (map sum (listed tags rows (length rows)))) (pruned all) (pruned-tags all tags)
   full h =

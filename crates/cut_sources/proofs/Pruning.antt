@@ -1,6 +1,6 @@
 -- The totals and the sources that are kept, source by source; and that pruning frees a row. Assumes nothing.
 use mathlib.Core.Path.{_≡_, refl, sym, ap, _∙_}
-use mathlib.Core.Bool.{Bool, true, false}
+use mathlib.Core.Bool.{Bool, true, false, cond}
 use mathlib.Core.List.{List, [], _∷_, _++_, map, append-assoc}
 use Prim.Native.Nat.{ℕ, zero, suc, _+_, _-_, _≤_, _<_, max}
 use native.Mathlib.Numerals.{add-one}
@@ -11,7 +11,7 @@ use lib.ListN.{length, getD, set, replicate, take, drop, length-append, length-r
 use lib.Seq.{length-take-le, take-suc, drop-cons, getD-at, set-at, set-append-seam}
 use borrow.Author.Tests.{lt-ltb, le-ltb}
 use Rattle.cut_sources.specs.Sorted.{one-if, below, highest}
-use Rattle.cut_sources.specs.Counted.{total, total-at, totals, keep-from, select, above, free, left, Sources, sources, choose, prune, prune-one}
+use Rattle.cut_sources.specs.Counted.{total, total-at, totals, keep-from, above, free, left, Sources, sources, prune, prune-one}
 use Rattle.cut_sources.proofs.Sorted.{swap, keep-from-there}
 
 -- ---- totals
@@ -53,7 +53,7 @@ highest-next rows n h = ap highest (totals-next rows n h) ∙ highest-end (total
 
 -- ---- those kept, and those not above k, are all
 count-step : (k t m n o : ℕ) (x : List ℕ) (xs : List (List ℕ)) → length xs ≡ m → m + n ≡ o
-    → length (select (ltb k t) (x ∷ xs) xs) + one-if n (ltb t (k + 1)) ≡ suc o
+    → length (cond (ltb k t) (x ∷ xs) xs) + one-if n (ltb t (k + 1)) ≡ suc o
 count-step k t m n o x xs e f = elim (decLt k t) [
   | yes h ↦ rw (lt-ltb k t h, le-ltb t (k + 1) (omega arith)) (omega arith)
   | no h ↦ rw (le-ltb k t (omega arith), lt-ltb t (k + 1) (omega arith)) (omega arith)
@@ -66,17 +66,17 @@ above-below k (x ∷ xs) = count-step k (total x) (length (above k xs)) (below (
 
 -- ---- one source more
 above-last : (k : ℕ) (b c : Bool) (x r : List ℕ) (l : List (List ℕ))
-    → select b (x ∷ select c (l ++ (r ∷ [])) l) (select c (l ++ (r ∷ [])) l) ≡ select c (select b (x ∷ l) l ++ (r ∷ [])) (select b (x ∷ l) l)
+    → cond b (x ∷ cond c (l ++ (r ∷ [])) l) (cond c (l ++ (r ∷ [])) l) ≡ cond c (cond b (x ∷ l) l ++ (r ∷ [])) (cond b (x ∷ l) l)
 above-last k true true x r l = refl
 above-last k true false x r l = refl
 above-last k false true x r l = refl
 above-last k false false x r l = refl
 
-above-end : (k : ℕ) (l : List (List ℕ)) (r : List ℕ) → above k (l ++ (r ∷ [])) ≡ select (ltb k (total r)) (above k l ++ (r ∷ [])) (above k l)
+above-end : (k : ℕ) (l : List (List ℕ)) (r : List ℕ) → above k (l ++ (r ∷ [])) ≡ cond (ltb k (total r)) (above k l ++ (r ∷ [])) (above k l)
 unfolding above
 above-end k [] r = refl
 above-end k (x ∷ xs) r =
-    ap (λ (t : List (List ℕ)). select (ltb k (total x)) (x ∷ t) t) (above-end k xs r) ∙ above-last k (ltb k (total x)) (ltb k (total r)) x r (above k xs)
+    ap (λ (t : List (List ℕ)). cond (ltb k (total x)) (x ∷ t) t) (above-end k xs r) ∙ above-last k (ltb k (total x)) (ltb k (total r)) x r (above k xs)
 
 one-free : (z : ℕ) (l : List (List ℕ)) → replicate z free ++ (free ∷ l) ≡ free ∷ (replicate z free ++ l)
 one-free zero l = refl
@@ -105,11 +105,11 @@ module _ (a : List (List ℕ)) (r : List ℕ) (l : List (List ℕ)) (n k : ℕ) 
   rest = a ++ (replicate (n - length a) free ++ (r ∷ l))
 
   abbrev step : Bool → Sources
-  step b = choose b (sources (length a + 1) (set (set rest n free) (length a) r)) (sources (length a) (set rest n free))
+  step b = cond b (sources (length a + 1) (set (set rest n free) (length a) r)) (sources (length a) (set rest n free))
 
   stepped : prune-one (left a n (r ∷ l)) k n ≡ step (ltb k (total r))
   unfolding prune-one total-at
-  stepped = ap (λ (t : List ℕ). choose (ltb k (total t)) (sources (length a + 1) (set (set rest n free) (length a) t)) (sources (length a) (set rest n free))) (there a (n - length a) r l n (omega arith))
+  stepped = ap (λ (t : List ℕ). cond (ltb k (total t)) (sources (length a + 1) (set (set rest n free) (length a) t)) (sources (length a) (set rest n free))) (there a (n - length a) r l n (omega arith))
 
   kept-more : left (a ++ (r ∷ [])) (n + 1) l ≡ step true
   kept-more =
@@ -123,10 +123,10 @@ module _ (a : List (List ℕ)) (r : List ℕ) (l : List (List ℕ)) (n k : ℕ) 
       let e : n + 1 - length a ≡ suc (n - length a) = omega arith in
       ap (sources (length a)) (ap (λ (z : ℕ). a ++ (replicate z free ++ l)) e ∙ sym (cleared a (n - length a) r l n (omega arith)))
 
-  one-more : left (select (ltb k (total r)) (a ++ (r ∷ [])) a) (n + 1) l ≡ prune-one (left a n (r ∷ l)) k n
+  one-more : left (cond (ltb k (total r)) (a ++ (r ∷ [])) a) (n + 1) l ≡ prune-one (left a n (r ∷ l)) k n
   one-more = go (ltb k (total r)) ∙ sym stepped
     where
-      go : (b : Bool) → left (select b (a ++ (r ∷ [])) a) (n + 1) l ≡ step b
+      go : (b : Bool) → left (cond b (a ++ (r ∷ [])) a) (n + 1) l ≡ step b
       go true = kept-more
       go false = freed-more
 
@@ -140,10 +140,10 @@ prune-next rows k n h =
     let r = getD rows n [] in
     let a = above k (take n rows) in
     let few : length a ≤ n = omega (arith, above-below k (take n rows), length-take-le n rows (omega arith)) in
-    let e : above k (take (n + 1) rows) ≡ select (ltb k (total r)) (a ++ (r ∷ [])) a =
+    let e : above k (take (n + 1) rows) ≡ cond (ltb k (total r)) (a ++ (r ∷ [])) a =
     ap (above k) (ap (λ (m : ℕ). take m rows) (add-one n) ∙ take-suc rows n [] h) ∙ above-end k (take n rows) r in
     ap (λ (x : List (List ℕ)). left x (n + 1) (drop (n + 1) rows)) e
-    ∙ ap (λ (m : ℕ). left (select (ltb k (total r)) (a ++ (r ∷ [])) a) (n + 1) (drop m rows)) (add-one n)
+    ∙ ap (λ (m : ℕ). left (cond (ltb k (total r)) (a ++ (r ∷ [])) a) (n + 1) (drop m rows)) (add-one n)
     ∙ one-more a r (drop (suc n) rows) n k few
     ∙ ap (λ (x : List (List ℕ)). prune-one (left a n x) k n) (sym (drop-cons rows n [] h))
 

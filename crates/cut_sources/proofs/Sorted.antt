@@ -1,6 +1,6 @@
 -- The entry at an index of the ascending numbers is the largest x with no more than so many numbers below it. Assumes nothing.
 use mathlib.Core.Path.{_≡_, refl, ap, _∙_}
-use mathlib.Core.Bool.{Bool, true, false}
+use mathlib.Core.Bool.{Bool, true, false, cond}
 use mathlib.Core.List.{List, [], _∷_}
 use Prim.Native.Nat.{ℕ, zero, suc, _+_, _≤_, _<_, _/_}
 use native.Mathlib.Omega.{arith}
@@ -9,7 +9,7 @@ use lib.Dec.{leb, ltb}
 use lib.ListN.{length, getD}
 use borrow.Author.Tests.{lt-ltb, le-ltb, le-leb, lt-leb}
 use Rattle.cut_sources.specs.Counted.{keep-from}
-use Rattle.cut_sources.specs.Sorted.{pick, insert, sorted, one-if, below, highest}
+use Rattle.cut_sources.specs.Sorted.{insert, sorted, one-if, below, highest}
 
 -- ---- sorting keeps the numbers: as many are below any x, and as many there are
 pub swap : (n : ℕ) (a b : Bool) → one-if (one-if n a) b ≡ one-if (one-if n b) a
@@ -18,7 +18,7 @@ swap n true false = refl
 swap n false true = refl
 swap n false false = refl
 
-below-pick : (x : ℕ) (b : Bool) (s t : List ℕ) (n : ℕ) → below x s ≡ n → below x t ≡ n → below x (pick b s t) ≡ n
+below-pick : (x : ℕ) (b : Bool) (s t : List ℕ) (n : ℕ) → below x s ≡ n → below x t ≡ n → below x (cond b s t) ≡ n
 below-pick x true s t n p q = p
 below-pick x false s t n p q = q
 
@@ -34,7 +34,7 @@ unfolding sorted below
 below-sorted x [] = refl
 below-sorted x (y ∷ ys) = below-insert x y (sorted ys) ∙ ap (λ (n : ℕ). one-if n (ltb y x)) (below-sorted x ys)
 
-length-pick : (b : Bool) (s t : List ℕ) (n : ℕ) → length s ≡ n → length t ≡ n → length (pick b s t) ≡ n
+length-pick : (b : Bool) (s t : List ℕ) (n : ℕ) → length s ≡ n → length t ≡ n → length (cond b s t) ≡ n
 length-pick true s t n p q = p
 length-pick false s t n p q = q
 
@@ -57,7 +57,7 @@ data Ascending : List ℕ → Type 0 where
   none : Ascending []
   more : {x : ℕ} {xs : List ℕ} → From x xs → Ascending xs → Ascending (x ∷ xs)
 
-from-pick : (x : ℕ) (b : Bool) (s t : List ℕ) → From x s → From x t → From x (pick b s t)
+from-pick : (x : ℕ) (b : Bool) (s t : List ℕ) → From x s → From x t → From x (cond b s t)
 from-pick x true s t p q = p
 from-pick x false s t p q = q
 

@@ -1,6 +1,6 @@
 -- A source without the tag is not the unit's; the tags that go with the rows, source by source. Assumes nothing.
 use mathlib.Core.Path.{_≡_, refl, sym, ap, _∙_}
-use mathlib.Core.Bool.{Bool, true, false}
+use mathlib.Core.Bool.{Bool, true, false, cond}
 use mathlib.Core.List.{List}
 use Prim.Native.Nat.{ℕ, zero, suc, _+_}
 use native.Mathlib.Numerals.{add-one}
@@ -9,7 +9,7 @@ use lib.ListN.{length, getD, set, length-set}
 use Rattle.sender.specs.declared.Name.{Name}
 use Rattle.sender.specs.declared.Words.{Words}
 use Rattle.store.specs.Store.{has-tag}
-use Rattle.cut_sources.specs.Counted.{Sources, sources, either, reads-as, counted-is, counted-find, count-tags, tag-moved, total-at, totals, keep-from, prune, prune-tags, pruned-tags}
+use Rattle.cut_sources.specs.Counted.{Sources, sources, reads-as, counted-is, counted-find, count-tags, tag-moved, total-at, totals, keep-from, prune, prune-tags, pruned-tags}
 
 pub no-tag : (tags : List ℕ) (rows : List (List ℕ)) (name : Name) (k : ℕ) → has-tag tags (name .tag) k ≡ false → counted-is tags rows name k ≡ false
 unfolding has-tag counted-is
@@ -38,17 +38,17 @@ step-tags tags old new rows now k n j e o m =
     ∙ ap (λ (t : List ℕ). tag-moved t (total-at (prune rows k n .rows) n) k n (prune rows k n .count)) o ∙ sym (prune-tags-next tags rows k n)
 
 -- ---- there are as many tags as before
-either-long : (b : Bool) (x y : List ℕ) (n : ℕ) → length x ≡ n → length y ≡ n → length (either b x y) ≡ n
-either-long true x y n p q = p
-either-long false x y n p q = q
+cond-long : (b : Bool) (x y : List ℕ) (n : ℕ) → length x ≡ n → length y ≡ n → length (cond b x y) ≡ n
+cond-long true x y n p q = p
+cond-long false x y n p q = q
 
 pub count-long : (tags : List ℕ) (rows : List (List ℕ)) (n : ℕ) (name : Name) → length (count-tags tags rows n name) ≡ length tags
 unfolding count-tags
-count-long tags rows n name = either-long (ltb (counted-find tags rows name n) n) tags (set tags n (name .tag)) (length tags) refl (length-set tags n (name .tag))
+count-long tags rows n name = cond-long (ltb (counted-find tags rows name n) n) tags (set tags n (name .tag)) (length tags) refl (length-set tags n (name .tag))
 
 moved-long : (tags : List ℕ) (total k i j : ℕ) → length (tag-moved tags total k i j) ≡ length tags
 unfolding tag-moved
-moved-long tags total k i j = either-long (ltb k total) _ _ (length tags) (simp length-set) (simp length-set)
+moved-long tags total k i j = cond-long (ltb k total) _ _ (length tags) (simp length-set) (simp length-set)
 
 prune-long : (tags : List ℕ) (rows : List (List ℕ)) (k n : ℕ) → length (prune-tags tags rows k n) ≡ length tags
 unfolding prune-tags
@@ -59,4 +59,4 @@ pub pruned-long : (s : Sources) (tags : List ℕ) → length (pruned-tags s tags
 unfolding pruned-tags
 pruned-long s tags =
     let k : ℕ = keep-from (totals (s .rows) (s .count)) in
-    either-long (ltb (s .count) (length (s .rows))) tags (prune-tags tags (s .rows) k (s .count)) (length tags) refl (prune-long tags (s .rows) k (s .count))
+    cond-long (ltb (s .count) (length (s .rows))) tags (prune-tags tags (s .rows) k (s .count)) (length tags) refl (prune-long tags (s .rows) k (s .count))

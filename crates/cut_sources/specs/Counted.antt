@@ -41,23 +41,15 @@ pub record Sources : Type 0 where
 abbrev pub sources : ℕ → List (List ℕ) → Sources
 sources n rows = record { count = n; rows = rows }
 
-abbrev pub choose : Bool → Sources → Sources → Sources
-choose true a b = a
-choose false a b = b
-
-abbrev pub either : Bool → List ℕ → List ℕ → List ℕ
-either true a b = a
-either false a b = b
-
 -- of n sources the unit's is counted for a cause once more; it is added at the end where it is not among them
 unfoldable pub count : List ℕ → List (List ℕ) → ℕ → Name → ℕ → Sources
 count tags rows n name cause =
-    choose (ltb (counted-find tags rows name n) n) (sources n (counted-up rows (counted-find tags rows name n) cause))
+    cond (ltb (counted-find tags rows name n) n) (sources n (counted-up rows (counted-find tags rows name n) cause))
     (sources (n + 1) (counted-up (counted-add rows n (name .words)) n cause))
 
 -- the tags then
 unfoldable pub count-tags : List ℕ → List (List ℕ) → ℕ → Name → List ℕ
-count-tags tags rows n name = either (ltb (counted-find tags rows name n) n) tags (set tags n (name .tag))
+count-tags tags rows n name = cond (ltb (counted-find tags rows name n) n) tags (set tags n (name .tag))
 
 -- ---- leaving out the least counted
 -- a source's total: the sum of its three counts, modulo 2^64
@@ -79,14 +71,10 @@ totals rows n = map total (take n rows)
 unfoldable pub keep-from : List ℕ → ℕ
 keep-from l = getD (sorted l) (length l / 4) 0
 
-abbrev pub select : Bool → List (List ℕ) → List (List ℕ) → List (List ℕ)
-select true a b = a
-select false a b = b
-
 -- the sources whose total is above k, in their order
 unfoldable pub above : ℕ → List (List ℕ) → List (List ℕ)
 above k [] = []
-above k (row ∷ rows) = select (ltb k (total row)) (row ∷ above k rows) (above k rows)
+above k (row ∷ rows) = cond (ltb k (total row)) (row ∷ above k rows) (above k rows)
 
 abbrev pub free : List ℕ
 free = replicate 8 0
@@ -106,12 +94,12 @@ row-put rows i j = set (set rows i free) j (counted-row rows i)
 -- one source more: moved to the end of those kept where its total is above k, else freed
 unfoldable pub prune-one : Sources → ℕ → ℕ → Sources
 prune-one s k i =
-    choose (ltb k (total-at (s .rows) i)) (sources (s .count + 1) (row-put (s .rows) i (s .count)))
+    cond (ltb k (total-at (s .rows) i)) (sources (s .count + 1) (row-put (s .rows) i (s .count)))
     (sources (s .count) (set (s .rows) i free))
 
 -- where every row is taken, the spare one too, only totals above k remain
 unfoldable pub pruned : Sources → Sources
-pruned s = choose (ltb (s .count) (length (s .rows))) s (prune (s .rows) (keep-from (totals (s .rows) (s .count))) (s .count))
+pruned s = cond (ltb (s .count) (length (s .rows))) s (prune (s .rows) (keep-from (totals (s .rows) (s .count))) (s .count))
 
 -- ---- the tags go with their rows
 -- the tag at i stands at j, and i becomes 0
@@ -120,7 +108,7 @@ tag-put tags i j = set (set tags i 0) j (getD tags i 0)
 
 -- the source at i of this total: its tag goes to j, the end of those kept, where the total is above k; its own place becomes 0
 unfoldable pub tag-moved : List ℕ → ℕ → ℕ → ℕ → ℕ → List ℕ
-tag-moved tags total k i j = either (ltb k total) (tag-put tags i j) (set tags i 0)
+tag-moved tags total k i j = cond (ltb k total) (tag-put tags i j) (set tags i 0)
 
 -- of the first n sources, one after the other
 unfoldable pub prune-tags : List ℕ → List (List ℕ) → ℕ → ℕ → List ℕ
@@ -128,4 +116,4 @@ prune-tags tags rows k zero = tags
 prune-tags tags rows k (suc n) = tag-moved (prune-tags tags rows k n) (total-at (prune rows k n .rows) n) k n (prune rows k n .count)
 
 unfoldable pub pruned-tags : Sources → List ℕ → List ℕ
-pruned-tags s tags = either (ltb (s .count) (length (s .rows))) tags (prune-tags tags (s .rows) (keep-from (totals (s .rows) (s .count))) (s .count))
+pruned-tags s tags = cond (ltb (s .count) (length (s .rows))) tags (prune-tags tags (s .rows) (keep-from (totals (s .rows) (s .count))) (s .count))

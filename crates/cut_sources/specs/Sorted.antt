@@ -1,17 +1,13 @@
 -- Numbers in ascending order, and how many are below one. Definitions only.
 use Prim.Native.Nat.{ℕ, _+_, max}
-use mathlib.Core.Bool.{Bool, true, false}
+use mathlib.Core.Bool.{Bool, true, false, cond}
 use mathlib.Core.List.{List, [], _∷_}
 use lib.Dec.{leb, ltb}
-
-abbrev pub pick : Bool → List ℕ → List ℕ → List ℕ
-pick true a b = a
-pick false a b = b
 
 -- x put before the first number that is not below it
 unfoldable pub insert : ℕ → List ℕ → List ℕ
 insert x [] = x ∷ []
-insert x (y ∷ ys) = pick (leb x y) (x ∷ y ∷ ys) (y ∷ insert x ys)
+insert x (y ∷ ys) = cond (leb x y) (x ∷ y ∷ ys) (y ∷ insert x ys)
 
 -- the same numbers, ascending
 unfoldable pub sorted : List ℕ → List ℕ

@@ -8,11 +8,11 @@ use lib.ListN.{length, getD, set, length-set, replicate, length-replicate}
 use lib.Seq.{getD-set-same, getD-set-other, ext-getD}
 use borrow.Author.Tests.{lt-ltb, le-ltb}
 use Rattle.flow.specs.declared.Use.{Use}
-use Rattle.flow.specs.Flow.{at, nothing}
+use Rattle.flow.specs.Flow.{at, nothing, dims}
 use Rattle.flow.proofs.Parts.{upto-at, upto-length}
 use Rattle.sender.specs.declared.Words.{Words}
 use Rattle.sender.specs.declared.Name.{Name}
-use Rattle.store.specs.Store.{Rows, rows, dims, part, picked, joined, unit-row, words-at, use-at, units-put, uses-put, added}
+use Rattle.store.specs.Store.{Rows, rows, part, picked, joined, unit-row, words-at, use-at, units-put, uses-put, added}
 use Rattle.fair.proofs.View as view
 use Rattle.store.proofs.Places.{Same}
 use Rattle.fair.proofs.Sweep as pass

@@ -3,7 +3,7 @@ use mathlib.Core.Path.{_≡_, refl, sym, ap, _∙_, subst}
 use Prim.Native.Nat.{ℕ, _*_, _^_, _≤_, _<_}
 use native.Mathlib.Nat.{le-refl, le-of-eq, le-trans, mul-le-mul-right}
 use native.Mathlib.Omega.{arith}
-use mathlib.Core.Bool.{Bool, true, false}
+use mathlib.Core.Bool.{Bool, true, false, cond}
 use mathlib.Core.List.{List, []}
 use lib.Dec.{eqb}
 use lib.ListN.{length, getD, replicate, length-replicate}
@@ -107,8 +107,8 @@ opening-tied room rate ceiling counted m rates = record {
   wide = λ j h. absurd (omega arith);
 }
 
-started : (n : ℕ) (h o : Shedder) (g k : wants.Hist) (a : Bool) → shed.choose a (shed.start-ends begin.Started o k) (shed.start-ends (begin.Refused n) h g) .answer ≡ begin.Started
-    → shed.choose a (shed.start-ends begin.Started o k) (shed.start-ends (begin.Refused n) h g) .head ≡ o
+started : (n : ℕ) (h o : Shedder) (g k : wants.Hist) (a : Bool) → cond a (shed.start-ends begin.Started o k) (shed.start-ends (begin.Refused n) h g) .answer ≡ begin.Started
+    → cond a (shed.start-ends begin.Started o k) (shed.start-ends (begin.Refused n) h g) .head ≡ o
 started n h o g k true e = refl
 started n h o g k false e = absurd (let z : _≡_ {A = ℕ} 0 1 = cc in omega arith)
 

@@ -1,7 +1,7 @@
 -- What `verdict::judged` computes is what the demand's model does at a judgement of the record. Assumes nothing.
 use mathlib.Core.Path.{_≡_, refl, ap, _∙_}
 use Prim.Native.Nat.{ℕ, _-_, _<_, max}
-use mathlib.Core.Bool.{Bool, true, false}
+use mathlib.Core.Bool.{Bool, true, false, cond}
 use mathlib.Core.List.{List}
 use lib.ListN.{length, replicate, length-replicate}
 use lib.Ieee as Ieee
@@ -58,7 +58,7 @@ module _ (s : State) (bs : List Bucket) (clk t : ℕ) (cost : ℕ → ℕ) (fill
   verdict-of : (v : Verdict) (fs : List Bucket) (u : Use) (c : List Float) → verdicts.settled v fs u c .verdict ≡ v
   verdict-of v fs u c = go (verdicts.is-admitted v)
     where
-      go : (b : Bool) → verdicts.either b (record { verdict = v; buckets = flow.spent-all fs c; used = flow.charged u c }) (record { verdict = v; buckets = fs; used = u }) .verdict ≡ v
+      go : (b : Bool) → cond b (record { verdict = v; buckets = flow.spent-all fs c; used = flow.charged u c }) (record { verdict = v; buckets = fs; used = u }) .verdict ≡ v
       go true = refl
       go false = refl
 
@@ -69,7 +69,7 @@ module _ (s : State) (bs : List Bucket) (clk t : ℕ) (cost : ℕ → ℕ) (fill
   next = flow.tried (flow.fade-to (flow.credited used now fill) now) (priced cost)
 
   abbrev settled-by : Bool → Outcome
-  settled-by b = verdicts.either b (record { verdict = decision; buckets = flow.spent-all full (priced cost); used = flow.charged next (priced cost) }) (record { verdict = decision; buckets = full; used = next })
+  settled-by b = cond b (record { verdict = decision; buckets = flow.spent-all full (priced cost); used = flow.charged next (priced cost) }) (record { verdict = decision; buckets = full; used = next })
 
   used-of : (b : Bool) → settled-by b .used ≡ settled b next cost
   used-of true = refl

@@ -64,9 +64,9 @@ judge-kept h m u cost t f =
     taken = unfold shed.bounded in (verdict-taken (shed.judged h (m .rows) u (shed.numbers cost) (max t (h .flow .«at_ms»)) .verdict))
 
     go : (n : ℕ) (a b c : Bool)
-        → ltb 0 (shed.judge-number (shed.choose a (shed.choose b (shed.judge-ends answer.Admitted h m) (shed.choose c (shed.judge-ends (answer.Refused 9) h m) (shed.bounded h m u cost t))) (shed.judge-ends (answer.Refused n) h m) .answer)) ≡ true
-        → calls.state-of (shed.choose a (shed.choose b (shed.judge-ends answer.Admitted h m) (shed.choose c (shed.judge-ends (answer.Refused 9) h m) (shed.bounded h m u cost t))) (shed.judge-ends (answer.Refused n) h m) .head)
-        (shed.choose a (shed.choose b (shed.judge-ends answer.Admitted h m) (shed.choose c (shed.judge-ends (answer.Refused 9) h m) (shed.bounded h m u cost t))) (shed.judge-ends (answer.Refused n) h m) .memory)
+        → ltb 0 (shed.judge-number (cond a (cond b (shed.judge-ends answer.Admitted h m) (cond c (shed.judge-ends (answer.Refused 9) h m) (shed.bounded h m u cost t))) (shed.judge-ends (answer.Refused n) h m) .answer)) ≡ true
+        → calls.state-of (cond a (cond b (shed.judge-ends answer.Admitted h m) (cond c (shed.judge-ends (answer.Refused 9) h m) (shed.bounded h m u cost t))) (shed.judge-ends (answer.Refused n) h m) .head)
+        (cond a (cond b (shed.judge-ends answer.Admitted h m) (cond c (shed.judge-ends (answer.Refused 9) h m) (shed.bounded h m u cost t))) (shed.judge-ends (answer.Refused n) h m) .memory)
         ≡ calls.state-of h m
     go n true true c f = refl
     go n true false true f = refl
@@ -80,7 +80,7 @@ abbrev cut-no : Shedder → Memory → ℕ → shed.Cut
 cut-no h m n = shed.cut-ends (done.Refused n) h (m .rows) (m .counted)
 
 cut-chosen : (h : Shedder) (m : Memory) (x y : shed.Cut) → ltb 0 (shed.cut-number (x .answer)) ≡ false → ltb 0 (shed.cut-number (y .answer)) ≡ false → (n : ℕ) (a b c : Bool)
-    → ltb 0 (shed.cut-number (shed.choose a (shed.choose b (shed.choose c (cut-no h m 9) x) y) (cut-no h m n) .answer)) ≡ true → cut-left m (shed.choose a (shed.choose b (shed.choose c (cut-no h m 9) x) y) (cut-no h m n)) ≡ calls.state-of h m
+    → ltb 0 (shed.cut-number (cond a (cond b (cond c (cut-no h m 9) x) y) (cut-no h m n) .answer)) ≡ true → cut-left m (cond a (cond b (cond c (cut-no h m 9) x) y) (cut-no h m n)) ≡ calls.state-of h m
 cut-chosen h m x y e g n true true true f = refl
 cut-chosen h m x y e g n true true false f = absurd (true≢false (sym f ∙ e))
 cut-chosen h m x y e g n true false c f = absurd (true≢false (sym f ∙ g))
@@ -272,7 +272,7 @@ module _ (room : ℕ) (rate ceiling : List ℕ) (rates : shed.all-rates rate ≡
       there-is (ltb (store.find (m .tags) (m .units) w n) n) (store.use-at (m .units) (m .uses) (store.find (m .tags) (m .units) w n))
       ∙ ap demand.there (sym (finding.sought room m w n)) ∙ ap (λ (rs : List (view.R room)). demand.there (model.find Name same shares room (named w) rs)) (b .rows-is)
     where
-      there-is : (c : Bool) (x : Use) → c ≡ demand.there (view.choose room c (demand.present x) demand.absent)
+      there-is : (c : Bool) (x : Use) → c ≡ demand.there (cond c (demand.present x) demand.absent)
       there-is true x = refl
       there-is false x = refl
 

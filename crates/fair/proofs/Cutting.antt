@@ -3,7 +3,7 @@ use mathlib.Core.Path.{_≡_, refl, sym, ap, _∙_, subst}
 use Prim.Native.Nat.{ℕ, _-_, _^_, _≤_, _<_}
 use native.Mathlib.Nat.{le-refl, le-of-eq, le-trans}
 use native.Mathlib.Omega.{arith}
-use mathlib.Core.Bool.{Bool, true, false, true≢false}
+use mathlib.Core.Bool.{Bool, true, false, true≢false, cond}
 use mathlib.Core.List.{List}
 use lib.Dec.{eqb, ltb}
 use lib.ListN.{length, getD}
@@ -38,7 +38,7 @@ use Rattle.fair.proofs.Judging.{found-at, not-unbounded, small-costs, z
 
 -- the head and the rows that a cut is counted over: with the cost handed back, or as they were
 abbrev pub cut-on : Shedder → Rows → unit.Unit → Cause → List ℕ → shed.KeptBy
-cut-on h m u c cost = shed.choose (shed.hands-back (h .flow .rate) c) (shed.handed-back (shed.kept-by h m) u (shed.numbers cost)) (shed.kept-by h m)
+cut-on h m u c cost = cond (shed.hands-back (h .flow .rate) c) (shed.handed-back (shed.kept-by h m) u (shed.numbers cost)) (shed.kept-by h m)
 
 module _ (room : ℕ) (rate : List ℕ) where
   abbrev S : Type 0
@@ -112,8 +112,8 @@ abbrev cut-no : Shedder → Rows → List (List ℕ) → ℕ → shed.Cut
 cut-no h m k n = shed.cut-ends (done.Refused n) h m k
 
 chosen : (h : Shedder) (m : Rows) (k : List (List ℕ)) (n : ℕ) (to : shed.KeptBy → shed.Cut) (x y : shed.KeptBy) (a b c : Bool) → eqb n 0 ≡ a
-    → ltb 0 (shed.cut-number (shed.choose a (shed.choose b (shed.choose c (cut-no h m k 9) (to x)) (to y)) (cut-no h m k n) .answer)) ≡ false
-    → (a ≡ true) × (shed.choose a (shed.choose b (shed.choose c (cut-no h m k 9) (to x)) (to y)) (cut-no h m k n) ≡ to (shed.choose b x y))
+    → ltb 0 (shed.cut-number (cond a (cond b (cond c (cut-no h m k 9) (to x)) (to y)) (cut-no h m k n) .answer)) ≡ false
+    → (a ≡ true) × (cond a (cond b (cond c (cut-no h m k 9) (to x)) (to y)) (cut-no h m k n) ≡ to (cond b x y))
 unfolding shed.cut-number
 chosen h m k n to x y true true true q f = absurd (true≢false f)
 chosen h m k n to x y true true false q f = (refl, refl)

@@ -15,7 +15,6 @@ use Rattle.verdict.specs.declared.Verdict.the-variants.{Admitted, OverShare, Re
 use Rattle.flow.specs.Flow as flow
 use Rattle.verdict.specs.Verdict as verdicts
 use Rattle.flow.specs.Flow.{dims, one, nothing, whole, at}
-use Rattle.verdict.specs.Verdict.{pick}
 use Rattle.flow.proofs.Parts.{upto-length, each-at, all-at, all-of}
 use Rattle.fair.specs.Runs.{sum, highest, lowest, clock, back, Each}
 use Rattle.fair.specs.Bounds.{stale-after, most-depth, least-depth, parts}
@@ -29,7 +28,7 @@ use Rattle.fair.proofs.Credit.{credit-claim}
 use Rattle.fair.proofs.Spared.{spared}
 
 -- ---- the decision: admission wants credit and tokens, and within the level only want of credit is over share
-admission : (w c t r : Bool) → is-admitted (pick w (pick c (pick t Admitted RelayRate) OverShare) (pick c (pick t (pick r Admitted OverShare) OverShare) OverShare)) ≡ true → (c ≡ true) × (t ≡ true)
+admission : (w c t r : Bool) → is-admitted (cond w (cond c (cond t Admitted RelayRate) OverShare) (cond c (cond t (cond r Admitted OverShare) OverShare) OverShare)) ≡ true → (c ≡ true) × (t ≡ true)
 admission true true true r e = (refl, refl)
 admission true true false r e = absurd (true≢false (sym e))
 admission true false t r e = absurd (true≢false (sym e))
@@ -50,7 +49,7 @@ is-over Admitted = false
 is-over OverShare = true
 is-over RelayRate = false
 
-not-over : (w t r : Bool) → T w → pick w (pick true (pick t Admitted RelayRate) OverShare) (pick true (pick t (pick r Admitted OverShare) OverShare) OverShare) ≡ OverShare → ⊥
+not-over : (w t r : Bool) → T w → cond w (cond true (cond t Admitted RelayRate) OverShare) (cond true (cond t (cond r Admitted OverShare) OverShare) OverShare) ≡ OverShare → ⊥
 unfolding is-over
 not-over true true r l e = true≢false (sym (ap is-over e))
 not-over true false r l e = true≢false (sym (ap is-over e))

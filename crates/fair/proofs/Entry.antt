@@ -3,7 +3,7 @@ use mathlib.Core.Path.{_≡_, refl, sym, ap, _∙_, subst}
 use Prim.Native.Nat.{ℕ, _+_, _≤_, _<_}
 use native.Mathlib.Omega.{arith}
 use native.Mathlib.Decide.{ℕ-discrete}
-use mathlib.Core.Bool.{Bool, true, false}
+use mathlib.Core.Bool.{Bool, true, false, cond}
 use mathlib.Core.List.{List, [], _∷_, _++_}
 use lib.Dec.{ltb}
 use lib.ListN.{length, getD, set, length-set, length-replicate}
@@ -141,7 +141,7 @@ module _ (room : ℕ) where
         let e : ltb i room ≡ true = lt-ltb i room (omega (arith, hold .few)) in
         let f : ltb i (length (m .units)) ≡ true = lt-ltb i (length (m .units)) (omega (arith, hold .units, hold .few)) in
         let s : model.find Name same shares room (named w) (listed m n) ≡ present (use-at (m .units) (m .uses) i) =
-        finding.sought room m w n ∙ ap (λ (c : Bool). view.choose room c (present (use-at (m .units) (m .uses) i)) absent) (lt-ltb i n l) in
+        finding.sought room m w n ∙ ap (λ (c : Bool). cond c (present (use-at (m .units) (m .uses) i)) absent) (lt-ltb i n l) in
         record {
           key = rw e;
           used = rw (f, s);
@@ -168,7 +168,7 @@ module _ (room : ℕ) where
       hs = omega (arith, hold .uses)
 
       not-there : model.find Name same shares room (named w) (listed m n) ≡ absent
-      not-there = finding.sought room m w n ∙ ap (λ (c : Bool). view.choose room c (present (use-at (m .units) (m .uses) i)) absent) (le-ltb i n l)
+      not-there = finding.sought room m w n ∙ ap (λ (c : Bool). cond c (present (use-at (m .units) (m .uses) i)) absent) (le-ltb i n l)
 
       new-there : view.record-at room new n ≡ view.row room w (flow.added now)
       new-there = back.added-there room m n w (flow.added now) (new-whole now) hi hu hs
@@ -219,17 +219,17 @@ module _ (room : ℕ) where
     name-is : sender.is-overflow u ≡ false → name-of u ≡ named w
     name-is e = ap (λ (c : Bool). record { overflow = c; name = w }) e
 
-    told : (c : Bool) (p : Use) (x y : K) → view.choose room (there (view.choose room c (present p) absent)) x y ≡ view.choose room c x y
+    told : (c : Bool) (p : Use) (x y : K) → cond (there (cond c (present p) absent)) x y ≡ cond c x y
     told true p x y = refl
     told false p x y = refl
 
-    pick-key : (c d : Bool) → ltb i n ≡ c → ltb n room ≡ d → resolved (named w) ≡ view.choose room c (model.own (named w)) (view.choose room d (model.own (named w)) model.shared)
+    pick-key : (c d : Bool) → ltb i n ≡ c → ltb n room ≡ d → resolved (named w) ≡ cond c (model.own (named w)) (cond d (model.own (named w)) model.shared)
     pick-key c d e f =
-        ap (λ (x : Kept). view.choose room (there x) (model.own (named w)) (view.choose room (ltb (length (listed m n)) room) (model.own (named w)) model.shared)) (finding.sought room m w n)
-        ∙ ap (λ (x : ℕ). view.choose room (there (view.choose room (ltb i n) (present (use-at (m .units) (m .uses) i)) absent)) (model.own (named w)) (view.choose room (ltb x room) (model.own (named w)) model.shared)) (view.listed-length room m n)
-        ∙ ap (λ (x : Bool). view.choose room (there (view.choose room x (present (use-at (m .units) (m .uses) i)) absent)) (model.own (named w)) (view.choose room (ltb n room) (model.own (named w)) model.shared)) e
-        ∙ ap (λ (x : Bool). view.choose room (there (view.choose room c (present (use-at (m .units) (m .uses) i)) absent)) (model.own (named w)) (view.choose room x (model.own (named w)) model.shared)) f
-        ∙ told c (use-at (m .units) (m .uses) i) (model.own (named w)) (view.choose room d (model.own (named w)) model.shared)
+        ap (λ (x : Kept). cond (there x) (model.own (named w)) (cond (ltb (length (listed m n)) room) (model.own (named w)) model.shared)) (finding.sought room m w n)
+        ∙ ap (λ (x : ℕ). cond (there (cond (ltb i n) (present (use-at (m .units) (m .uses) i)) absent)) (model.own (named w)) (cond (ltb x room) (model.own (named w)) model.shared)) (view.listed-length room m n)
+        ∙ ap (λ (x : Bool). cond (there (cond x (present (use-at (m .units) (m .uses) i)) absent)) (model.own (named w)) (cond (ltb n room) (model.own (named w)) model.shared)) e
+        ∙ ap (λ (x : Bool). cond (there (cond c (present (use-at (m .units) (m .uses) i)) absent)) (model.own (named w)) (cond x (model.own (named w)) model.shared)) f
+        ∙ told c (use-at (m .units) (m .uses) i) (model.own (named w)) (cond d (model.own (named w)) model.shared)
 
     pub entry-placed : Placed m n o (resolved (name-of u)) b u now (shed.entry m n room u now)
     unfolding shed.entry
@@ -237,7 +237,7 @@ module _ (room : ℕ) where
       where
         by : (a : Bool) → sender.is-overflow u ≡ a → (c : Bool) → ltb i n ≡ c → (d : Bool) → ltb n room ≡ d
             → Placed m n o (resolved (record { overflow = a; name = w })) b u now
-            (shed.choose a (shed.entered (shed.place room n) m) (shed.choose c (shed.entered (shed.place i n) m) (shed.choose d (shed.entered (shed.place n (n + 1)) (store.added m n w (flow.added now))) (shed.entered (shed.place room n) m))))
+            (cond a (shed.entered (shed.place room n) m) (cond c (shed.entered (shed.place i n) m) (cond d (shed.entered (shed.place n (n + 1)) (store.added m n w (flow.added now))) (shed.entered (shed.place room n) m))))
         by true e c f d g = at-shared
         by false e true f d g = subst (λ (k : K). Placed m n o k b u now (shed.entered (shed.place i n) m)) (sym (pick-key true d f g)) (at-found (ltb-true i n f))
         by false e false f true g = subst (λ (k : K). Placed m n o k b u now (shed.entered (shed.place n (n + 1)) (store.added m n w (flow.added now)))) (sym (pick-key false true f g)) (at-added (ltb-false i n f) (ltb-true n room g))

@@ -23,9 +23,6 @@ module _ (room : ℕ) where
   abbrev R′ : Type 0
   R′ = view.R room
 
-  abbrev pick : {A : Type 0} → Bool → A → A → A
-  pick b x y = view.choose room b x y
-
   abbrev record-at : Rows → ℕ → R′
   record-at m i = view.record-at room m i
 
@@ -39,26 +36,26 @@ module _ (room : ℕ) where
   put u x rs = model.put Name same shares room u x rs
 
   -- ---- at the end of a list
-  seek-end : (u : Name) (xs : List R′) (r : R′) → seek u (xs ++ (r ∷ [])) ≡ pick (there (seek u xs)) (seek u xs) (seek u (r ∷ []))
+  seek-end : (u : Name) (xs : List R′) (r : R′) → seek u (xs ++ (r ∷ [])) ≡ cond (there (seek u xs)) (seek u xs) (seek u (r ∷ []))
   seek-end u [] r = refl
   seek-end u (x ∷ xs) r = go (seek-end u xs r) (same u (x .name))
     where
-      go : seek u (xs ++ (r ∷ [])) ≡ pick (there (seek u xs)) (seek u xs) (seek u (r ∷ [])) → (b : Bool)
-          → pick b (present (x .used)) (seek u (xs ++ (r ∷ []))) ≡ pick (there (pick b (present (x .used)) (seek u xs))) (pick b (present (x .used)) (seek u xs)) (seek u (r ∷ []))
+      go : seek u (xs ++ (r ∷ [])) ≡ cond (there (seek u xs)) (seek u xs) (seek u (r ∷ [])) → (b : Bool)
+          → cond b (present (x .used)) (seek u (xs ++ (r ∷ []))) ≡ cond (there (cond b (present (x .used)) (seek u xs))) (cond b (present (x .used)) (seek u xs)) (seek u (r ∷ []))
       go i true = refl
       go i false = i
 
-  put-end : (u : Name) (v : Use) (xs : List R′) (r : R′) → put u v (xs ++ (r ∷ [])) ≡ pick (there (seek u xs)) (put u v xs ++ (r ∷ [])) (xs ++ put u v (r ∷ []))
+  put-end : (u : Name) (v : Use) (xs : List R′) (r : R′) → put u v (xs ++ (r ∷ [])) ≡ cond (there (seek u xs)) (put u v xs ++ (r ∷ [])) (xs ++ put u v (r ∷ []))
   put-end u v [] r = refl
   put-end u v (x ∷ xs) r = go (put-end u v xs r) (same u (x .name))
     where
-      under : (c : Bool) (l k : List R′) → x ∷ pick c l k ≡ pick c (x ∷ l) (x ∷ k)
+      under : (c : Bool) (l k : List R′) → x ∷ cond c l k ≡ cond c (x ∷ l) (x ∷ k)
       under true l k = refl
       under false l k = refl
 
-      go : put u v (xs ++ (r ∷ [])) ≡ pick (there (seek u xs)) (put u v xs ++ (r ∷ [])) (xs ++ put u v (r ∷ [])) → (b : Bool)
-          → pick b (record { name = x .name; used = v } ∷ (xs ++ (r ∷ []))) (x ∷ put u v (xs ++ (r ∷ [])))
-          ≡ pick (there (pick b (present (x .used)) (seek u xs))) (pick b (record { name = x .name; used = v } ∷ xs) (x ∷ put u v xs) ++ (r ∷ [])) (x ∷ (xs ++ put u v (r ∷ [])))
+      go : put u v (xs ++ (r ∷ [])) ≡ cond (there (seek u xs)) (put u v xs ++ (r ∷ [])) (xs ++ put u v (r ∷ [])) → (b : Bool)
+          → cond b (record { name = x .name; used = v } ∷ (xs ++ (r ∷ []))) (x ∷ put u v (xs ++ (r ∷ [])))
+          ≡ cond (there (cond b (present (x .used)) (seek u xs))) (cond b (record { name = x .name; used = v } ∷ xs) (x ∷ put u v xs) ++ (r ∷ [])) (x ∷ (xs ++ put u v (r ∷ [])))
       go i true = refl
       go i false = ap (λ (l : List R′). x ∷ l) i ∙ under (there (seek u xs)) (put u v xs ++ (r ∷ [])) (xs ++ put u v (r ∷ []))
 
@@ -67,8 +64,8 @@ module _ (room : ℕ) where
   put-absent u v [] e = refl
   put-absent u v (x ∷ xs) e = go (put-absent u v xs) (same u (x .name)) e
     where
-      go : (there (seek u xs) ≡ false → put u v xs ≡ xs ++ (record { name = u; used = v } ∷ [])) → (b : Bool) → there (pick b (present (x .used)) (seek u xs)) ≡ false
-          → pick b (record { name = x .name; used = v } ∷ xs) (x ∷ put u v xs) ≡ x ∷ (xs ++ (record { name = u; used = v } ∷ []))
+      go : (there (seek u xs) ≡ false → put u v xs ≡ xs ++ (record { name = u; used = v } ∷ [])) → (b : Bool) → there (cond b (present (x .used)) (seek u xs)) ≡ false
+          → cond b (record { name = x .name; used = v } ∷ xs) (x ∷ put u v xs) ≡ x ∷ (xs ++ (record { name = u; used = v } ∷ []))
       go i true e = absurd (true≢false e)
       go i false e = ap (λ (l : List R′). x ∷ l) (i e)
 
@@ -86,22 +83,22 @@ module _ (room : ℕ) where
     used-is j = refl
 
     -- ---- what is found
-    seek-listed : (n : ℕ) → seek (named w) (listed m n) ≡ pick (ltb (F n) n) (present (use-at (m .units) (m .uses) (F n))) absent
+    seek-listed : (n : ℕ) → seek (named w) (listed m n) ≡ cond (ltb (F n) n) (present (use-at (m .units) (m .uses) (F n))) absent
     unfolding first view.listed
     seek-listed zero = refl
     seek-listed (suc n) = seek-end (named w) (listed m n) (record-at m n) ∙ go (F n) (ltb (F n) n) refl (is-at (m .tags) (m .units) w n) refl (seek-listed n)
       where
-        last : (b : Bool) → is-at (m .tags) (m .units) w n ≡ b → seek (named w) (record-at m n ∷ []) ≡ pick b (present (use-at (m .units) (m .uses) n)) absent
-        last b e = ap (λ (c : Bool). pick c (present (record-at m n .used)) absent) (sym (at-is n) ∙ e) ∙ ap (λ (x : Use). pick b (present x) absent) (used-is n)
+        last : (b : Bool) → is-at (m .tags) (m .units) w n ≡ b → seek (named w) (record-at m n ∷ []) ≡ cond b (present (use-at (m .units) (m .uses) n)) absent
+        last b e = ap (λ (c : Bool). cond c (present (record-at m n .used)) absent) (sym (at-is n) ∙ e) ∙ ap (λ (x : Use). cond b (present x) absent) (used-is n)
 
-        go : (f : ℕ) (b : Bool) → ltb f n ≡ b → (c : Bool) → is-at (m .tags) (m .units) w n ≡ c → seek (named w) (listed m n) ≡ pick b (present (use-at (m .units) (m .uses) f)) absent
-            → pick (there (seek (named w) (listed m n))) (seek (named w) (listed m n)) (seek (named w) (record-at m n ∷ []))
-            ≡ pick (ltb (cond b f (cond c n (suc n))) (suc n)) (present (use-at (m .units) (m .uses) (cond b f (cond c n (suc n))))) absent
+        go : (f : ℕ) (b : Bool) → ltb f n ≡ b → (c : Bool) → is-at (m .tags) (m .units) w n ≡ c → seek (named w) (listed m n) ≡ cond b (present (use-at (m .units) (m .uses) f)) absent
+            → cond (there (seek (named w) (listed m n))) (seek (named w) (listed m n)) (seek (named w) (record-at m n ∷ []))
+            ≡ cond (ltb (cond b f (cond c n (suc n))) (suc n)) (present (use-at (m .units) (m .uses) (cond b f (cond c n (suc n))))) absent
         go f true e c g i = let l : f < suc n = omega (arith, ltb-true f n e) in rw (i, lt-ltb f (suc n) l)
         go f false e true g i = let l : n < suc n = omega arith in rw (i, lt-ltb n (suc n) l) (last true g)
         go f false e false g i = rw (i, le-ltb (suc n) (suc n) (omega arith)) (last false g)
 
-    pub sought : (n : ℕ) → seek (named w) (listed m n) ≡ pick (ltb (find (m .tags) (m .units) w n) n) (present (use-at (m .units) (m .uses) (find (m .tags) (m .units) w n))) absent
+    pub sought : (n : ℕ) → seek (named w) (listed m n) ≡ cond (ltb (find (m .tags) (m .units) w n) n) (present (use-at (m .units) (m .uses) (find (m .tags) (m .units) w n))) absent
     unfolding find
     sought n = seek-listed n
 
@@ -129,14 +126,14 @@ module _ (room : ℕ) where
           where
             go : (f : ℕ) → F n ≡ f → (b : Bool) → ltb f n ≡ b → (c : Bool) → is-at (m .tags) (m .units) w n ≡ c → (f < n → put (named w) x (listed m n) ≡ listed (putted f) n)
                 → cond b f (cond c n (suc n)) < suc n
-                → pick (there (seek (named w) (listed m n))) (put (named w) x (listed m n) ++ (record-at m n ∷ [])) (listed m n ++ put (named w) x (record-at m n ∷ []))
+                → cond (there (seek (named w) (listed m n))) (put (named w) x (listed m n) ++ (record-at m n ∷ [])) (listed m n ++ put (named w) x (record-at m n ∷ []))
                 ≡ listed (putted (cond b f (cond c n (suc n)))) n ++ (record-at (putted (cond b f (cond c n (suc n)))) n ∷ [])
             go f a true e c g i h =
                 let k : f < n = ltb-true f n e in
-                let s : there (seek (named w) (listed m n)) ≡ true = ap there (seek-listed n ∙ ap (λ (y : ℕ). pick (ltb y n) (present (use-at (m .units) (m .uses) y)) absent) a ∙ ap (λ (y : Bool). pick y (present (use-at (m .units) (m .uses) f)) absent) e) in
+                let s : there (seek (named w) (listed m n)) ≡ true = ap there (seek-listed n ∙ ap (λ (y : ℕ). cond (ltb y n) (present (use-at (m .units) (m .uses) y)) absent) a ∙ ap (λ (y : Bool). cond y (present (use-at (m .units) (m .uses) f)) absent) e) in
                 rw (s, i k, elsewhere f (omega arith) n (λ q. absurd (omega arith)))
             go f a false e true g i h =
-                let s : there (seek (named w) (listed m n)) ≡ false = ap there (seek-listed n ∙ ap (λ (y : ℕ). pick (ltb y n) (present (use-at (m .units) (m .uses) y)) absent) a ∙ ap (λ (y : Bool). pick y (present (use-at (m .units) (m .uses) f)) absent) e) in
+                let s : there (seek (named w) (listed m n)) ≡ false = ap there (seek-listed n ∙ ap (λ (y : ℕ). cond (ltb y n) (present (use-at (m .units) (m .uses) y)) absent) a ∙ ap (λ (y : Bool). cond y (present (use-at (m .units) (m .uses) f)) absent) e) in
                 rw (s, sym (at-is n) ∙ g, before n (omega arith) n (omega arith), in-place n (omega arith))
             go f a false e false g i h = absurd (omega arith)
 

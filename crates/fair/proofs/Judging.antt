@@ -244,7 +244,7 @@ module _ (room : ℕ) (rate : List ℕ) where
   unfolding shed.told
   told-bound h k n v cost m st clk b = go (is-admitted v)
     where
-      go : (c : Bool) → Bound room rate (shed.choose c (tally-on h m k) (shed.tallied (tally-on h m k) n (shed.cause-of v) (getD cost 0 0)) .head) (rows-then m (shed.choose c (tally-on h m k) (shed.tallied (tally-on h m k) n (shed.cause-of v) (getD cost 0 0)))) st clk
+      go : (c : Bool) → Bound room rate (cond c (tally-on h m k) (shed.tallied (tally-on h m k) n (shed.cause-of v) (getD cost 0 0)) .head) (rows-then m (cond c (tally-on h m k) (shed.tallied (tally-on h m k) n (shed.cause-of v) (getD cost 0 0)))) st clk
       go true = b
       go false = tallied-bound h k n (shed.cause-of v) (getD cost 0 0) m st clk b
 
@@ -305,8 +305,8 @@ pub record Taken (h : Shedder) (m : Memory) (u : unit.Unit) (cost : List ℕ) (t
   pub is : shed.judge h m u cost t ≡ shed.bounded h m u cost t
 
 chosen : (h : Shedder) (m : Memory) (n : ℕ) (to : shed.Judged) (a b c : Bool) → eqb n 0 ≡ a → b ≡ false
-    → ltb 0 (shed.judge-number (shed.choose a (shed.choose b (shed.judge-ends answer.Admitted h m) (shed.choose c (shed.judge-ends (answer.Refused 9) h m) to)) (shed.judge-ends (answer.Refused n) h m) .answer)) ≡ false
-    → (a ≡ true) × (shed.choose a (shed.choose b (shed.judge-ends answer.Admitted h m) (shed.choose c (shed.judge-ends (answer.Refused 9) h m) to)) (shed.judge-ends (answer.Refused n) h m) ≡ to)
+    → ltb 0 (shed.judge-number (cond a (cond b (shed.judge-ends answer.Admitted h m) (cond c (shed.judge-ends (answer.Refused 9) h m) to)) (shed.judge-ends (answer.Refused n) h m) .answer)) ≡ false
+    → (a ≡ true) × (cond a (cond b (shed.judge-ends answer.Admitted h m) (cond c (shed.judge-ends (answer.Refused 9) h m) to)) (shed.judge-ends (answer.Refused n) h m) ≡ to)
 unfolding shed.judge-number
 chosen h m n to true true c q e f = absurd (true≢false e)
 chosen h m n to true false true q e f = absurd (true≢false f)

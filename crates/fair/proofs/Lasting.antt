@@ -3,7 +3,7 @@ use mathlib.Core.Path.{_≡_, refl, sym, ap, _∙_, subst}
 use Prim.Native.Nat.{ℕ, zero, suc, _+_, _-_, _≤_, _<_, max}
 use native.Mathlib.Nat.{le-refl}
 use native.Mathlib.Omega.{arith}
-use mathlib.Core.Bool.{Bool, true, false, cond, true≢false}
+use mathlib.Core.Bool.{Bool, true, false, cond, true≢false, _||_}
 use mathlib.Core.List.{List, [], _∷_}
 use lib.Dec.{eqb, ltb}
 use lib.ListN.{length}
@@ -64,7 +64,7 @@ stamps-yes : (a b c d : ℕ) → a < 9007199254740992 → b < 9007199254740992 �
 unfolding shed.stamps-whole shed.is-stamp
 stamps-yes a b c d p q r s = rw (lt-ltb a 9007199254740992 p, lt-ltb b 9007199254740992 q, lt-ltb c 9007199254740992 r, lt-ltb d 9007199254740992 s)
 
-or-right : (a : Bool) → shed.or a true ≡ true
+or-right : (a : Bool) → _||_ a true ≡ true
 or-right true = refl
 or-right false = refl
 
@@ -120,7 +120,7 @@ bounded-taken : (h : Shedder) (m : Memory) (u : unit.Unit) (cost : List ℕ) (t 
 unfolding shed.bounded
 bounded-taken h m u cost t = real.verdict-taken (shed.judged h (m .rows) u (shed.numbers cost) (max t (h .flow .«at_ms»)) .verdict)
 
-cut-picked : (b : Bool) (x y : shed.Cut) → ltb 0 (shed.cut-number (x .answer)) ≡ false → ltb 0 (shed.cut-number (y .answer)) ≡ false → ltb 0 (shed.cut-number (shed.choose b x y .answer)) ≡ false
+cut-picked : (b : Bool) (x y : shed.Cut) → ltb 0 (shed.cut-number (x .answer)) ≡ false → ltb 0 (shed.cut-number (y .answer)) ≡ false → ltb 0 (shed.cut-number (cond b x y .answer)) ≡ false
 cut-picked true x y p q = p
 cut-picked false x y p q = q
 
@@ -140,7 +140,7 @@ module _ (room size : ℕ) (rate ceiling : List ℕ) (rates : shed.all-rates rat
   on-lasts : (h : Shedder) (m : Memory) (u : unit.Unit) (c : Cause) (cost : List ℕ) → steady.Lasts size h (m .counted) (h .flow .«at_ms») → steady.Lasts size (cutting.cut-on h (m .rows) u c cost .head) (m .counted) (h .flow .«at_ms»)
   on-lasts h m u c cost b = go (shed.hands-back (h .flow .rate) c)
     where
-      go : (x : Bool) → steady.Lasts size (shed.choose x (shed.handed-back (shed.kept-by h (m .rows)) u (shed.numbers cost)) (shed.kept-by h (m .rows)) .head) (m .counted) (h .flow .«at_ms»)
+      go : (x : Bool) → steady.Lasts size (cond x (shed.handed-back (shed.kept-by h (m .rows)) u (shed.numbers cost)) (shed.kept-by h (m .rows)) .head) (m .counted) (h .flow .«at_ms»)
       go true = record { fine = steady.handed-fine size h (m .rows) u (shed.numbers cost) (h .flow .«at_ms») (b .fine); long = b .long }
       go false = b
 
@@ -224,13 +224,13 @@ pub record Sizes (i u s k : ℕ) : Type 0 where
 asked-sizes : (rate : List ℕ) (i u s k : ℕ) → shed.start-asked rate i u s k ≡ 0 → Sizes i u s k
 unfolding shed.start-asked shed.sizes-whole shed.tags-whole
 asked-sizes rate i u s k e =
-    let a = judging.zero-yes (shed.or (shed.is-unbounded rate) (shed.all-rates rate)) _ 0 e in
+    let a = judging.zero-yes (_||_ (shed.is-unbounded rate) (shed.all-rates rate)) _ 0 e in
     let b = judging.zero-yes (cond (eqb i (u + k)) (cond (eqb s u) (shed.rooms-whole u k 0 0) false) false) 0 1 (a .1) in
     let c = yes-yes (eqb i (u + k)) _ (b .0) in
     let d = yes-yes (eqb s u) _ (c .1) in
     record { tags = eqb-true i (u + k) (c .0); uses = eqb-true s u (d .0); rooms = rooms-of u k 0 0 (d .1) }
 
-started-asked : (n : ℕ) (h o : Shedder) (g k : wants.Hist) (a : Bool) → shed.choose a (shed.start-ends begin.Started o k) (shed.start-ends (begin.Refused n) h g) .answer ≡ begin.Started → a ≡ true
+started-asked : (n : ℕ) (h o : Shedder) (g k : wants.Hist) (a : Bool) → cond a (shed.start-ends begin.Started o k) (shed.start-ends (begin.Refused n) h g) .answer ≡ begin.Started → a ≡ true
 started-asked n h o g k true e = refl
 started-asked n h o g k false e = absurd (let z : _≡_ {A = ℕ} 0 1 = cc in omega arith)
 

@@ -1,7 +1,7 @@
 -- No judgement and no cut changes how many tags there are. Assumes nothing.
 use mathlib.Core.Path.{_≡_, refl, sym, ap, _∙_}
 use Prim.Native.Nat.{ℕ, zero, suc, _+_, max}
-use mathlib.Core.Bool.{Bool, true, false}
+use mathlib.Core.Bool.{Bool, true, false, cond}
 use mathlib.Core.List.{List, _++_}
 use lib.Dec.{eqb, leb, ltb}
 use lib.ListN.{length, getD, set, take, drop, length-set, length-append, take-append-drop}
@@ -15,7 +15,7 @@ use Rattle.sender.specs.declared.Name.{Name}
 use Rattle.sender.specs.Sender as sender
 use Rattle.store.specs.Store as store
 use Rattle.store.specs.Store.{Rows, rows}
-use Rattle.store_retain.specs.Retain.{Kept, kept, either, freed, moved, is-stale, retain-one, retained}
+use Rattle.store_retain.specs.Retain.{Kept, kept, freed, moved, is-stale, retain-one, retained}
 use Rattle.wants.specs.Wants.{Hist}
 use Rattle.cut_sources.specs.Counted as counts
 use Rattle.cut_sources.proofs.Tagged.{count-long, pruned-long}
@@ -37,7 +37,7 @@ one-span : (k : Kept) (table now i : ℕ) → length (retain-one k table now i .
 unfolding retain-one
 one-span k table now i = go (is-stale (k .rows .tags) (k .rows .units) table now i) (ltb (k .count) i)
   where
-    go : (b c : Bool) → length (either b (kept (k .count) (freed (k .rows) i)) (either c (kept (k .count + 1) (moved (k .rows) i (k .count))) (kept (k .count + 1) (k .rows))) .rows .tags) ≡ length (k .rows .tags)
+    go : (b c : Bool) → length (cond b (kept (k .count) (freed (k .rows) i)) (cond c (kept (k .count + 1) (moved (k .rows) i (k .count))) (kept (k .count + 1) (k .rows))) .rows .tags) ≡ length (k .rows .tags)
     go true c = freed-span (k .rows) i
     go false true = moved-span (k .rows) i (k .count)
     go false false = refl
@@ -55,7 +55,7 @@ again-span : (s : shed.Scanning) → length (shed.again s .rows .tags) ≡ lengt
 unfolding shed.again
 again-span s = go (leb 1 (s .head .scan .remaining))
   where
-    go : (b : Bool) → length (shed.choose b (shed.visit s) s .rows .tags) ≡ length (s .rows .tags)
+    go : (b : Bool) → length (cond b (shed.visit s) s .rows .tags) ≡ length (s .rows .tags)
     go true = visit-span s
     go false = refl
 
@@ -64,7 +64,7 @@ unfolding shed.scanned
 scanned-span h m g clk = go (shed.begun h g clk)
   where
     by : (s : shed.Started) (c : Bool)
-        → length (shed.choose c (shed.ended-at (shed.again (shed.visit (shed.scanning (s .head) m (s .hist))))) (shed.scanning (s .head) m (s .hist)) .rows .tags) ≡ length (m .tags)
+        → length (cond c (shed.ended-at (shed.again (shed.visit (shed.scanning (s .head) m (s .hist))))) (shed.scanning (s .head) m (s .hist)) .rows .tags) ≡ length (m .tags)
     by s true = again-span (shed.visit (shed.scanning (s .head) m (s .hist))) ∙ visit-span (shed.scanning (s .head) m (s .hist))
     by s false = refl
 
@@ -72,9 +72,9 @@ scanned-span h m g clk = go (shed.begun h g clk)
     go s = by s (leb 1 (s .head .scan .remaining))
 
 -- ---- a record
-choose-span : (b : Bool) (x y : shed.Entered) (n : ℕ) → length (x .rows .tags) ≡ n → length (y .rows .tags) ≡ n → length (shed.choose b x y .rows .tags) ≡ n
-choose-span true x y n p q = p
-choose-span false x y n p q = q
+cond-span : (b : Bool) (x y : shed.Entered) (n : ℕ) → length (x .rows .tags) ≡ n → length (y .rows .tags) ≡ n → length (cond b x y .rows .tags) ≡ n
+cond-span true x y n p q = p
+cond-span false x y n p q = q
 
 added-span : (m : Rows) (i : ℕ) (w : Name) (u : Use) → length (store.added m i w u .tags) ≡ length (m .tags)
 unfolding store.added
@@ -83,9 +83,9 @@ added-span m i w u = length-set (m .tags) i (w .tag)
 entry-span : (m : Rows) (tracked room : ℕ) (u : unit.Unit) (now : ℕ) → length (shed.entry m tracked room u now .rows .tags) ≡ length (m .tags)
 unfolding shed.entry
 entry-span m tracked room u now =
-    choose-span (sender.is-overflow u) _ _ (length (m .tags)) refl
-    (choose-span (ltb (store.find (m .tags) (m .units) (sender.name-of u) tracked) tracked) _ _ (length (m .tags)) refl
-    (choose-span (ltb tracked room) _ _ (length (m .tags)) (added-span m tracked (sender.name-of u) (flow.added now)) refl))
+    cond-span (sender.is-overflow u) _ _ (length (m .tags)) refl
+    (cond-span (ltb (store.find (m .tags) (m .units) (sender.name-of u) tracked) tracked) _ _ (length (m .tags)) refl
+    (cond-span (ltb tracked room) _ _ (length (m .tags)) (added-span m tracked (sender.name-of u) (flow.added now)) refl))
 
 judged-span : (h : Shedder) (m : Rows) (u : unit.Unit) (cost : List Float) (now : ℕ) → length (shed.judged h m u cost now .rows .tags) ≡ length (m .tags)
 unfolding shed.judged
@@ -110,7 +110,7 @@ told-span : (h : Shedder) (i : List ℕ) (k : List (List ℕ)) (n : Name) (v : V
 unfolding shed.told
 told-span h i k n v cost = go (is-admitted v)
   where
-    go : (c : Bool) → length (shed.choose c (shed.tally h i k) (shed.tallied (shed.tally h i k) n (shed.cause-of v) (getD cost 0 0)) .tags) ≡ length i
+    go : (c : Bool) → length (cond c (shed.tally h i k) (shed.tallied (shed.tally h i k) n (shed.cause-of v) (getD cost 0 0)) .tags) ≡ length i
     go true = refl
     go false = tallied-span h i k n (shed.cause-of v) (getD cost 0 0)
 
@@ -128,6 +128,6 @@ pub after-span : (s : shed.KeptBy) (k : List (List ℕ)) (u : unit.Unit) (c : Ca
 unfolding shed.noted
 after-span s k u c cost = tallied-span (s .head) (s .rows .tags) k (sender.name-of u) (shed.index-of c) (getD cost 0 0)
 
-pub on-span : (b : Bool) (h : Shedder) (m : Rows) (u : unit.Unit) (cost : List Float) → length (shed.choose b (shed.handed-back (shed.kept-by h m) u cost) (shed.kept-by h m) .rows .tags) ≡ length (m .tags)
+pub on-span : (b : Bool) (h : Shedder) (m : Rows) (u : unit.Unit) (cost : List Float) → length (cond b (shed.handed-back (shed.kept-by h m) u cost) (shed.kept-by h m) .rows .tags) ≡ length (m .tags)
 on-span true h m u cost = handed-span h m u cost
 on-span false h m u cost = refl

@@ -4,7 +4,7 @@ use Prim.Native.Nat.{ℕ, zero, suc, _+_, _-_, _≤_, _<_, max}
 use native.Mathlib.Nat.{le-refl, le-of-eq, le-trans}
 use native.Mathlib.Numerals.{add-one}
 use native.Mathlib.Omega.{arith}
-use mathlib.Core.Bool.{Bool, true, false}
+use mathlib.Core.Bool.{Bool, true, false, cond}
 use mathlib.Core.List.{List}
 use lib.Dec.{eqb, leb, ltb}
 use lib.ListN.{length, getD, set, length-set, replicate}
@@ -44,7 +44,7 @@ count-kept : (tags : List ℕ) (rows : List (List ℕ)) (n : ℕ) (w : Name) (c 
 unfolding counts.count
 count-kept tags rows n w c h = go (ltb (counts.counted-find tags rows w n) n)
   where
-    go : (b : Bool) → Kept (length rows) (counts.choose b (sources n (counts.counted-up rows (counts.counted-find tags rows w n) c)) (sources (n + 1) (counts.counted-up (counts.counted-add rows n (w .words)) n c)))
+    go : (b : Bool) → Kept (length rows) (cond b (sources n (counts.counted-up rows (counts.counted-find tags rows w n) c)) (sources (n + 1) (counts.counted-up (counts.counted-add rows n (w .words)) n c)))
     go true = record { long = up-long rows (counts.counted-find tags rows w n) c; few = omega arith }
     go false = record { long = up-long (counts.counted-add rows n (w .words)) n c ∙ add-long rows n (w .words); few = omega arith }
 
@@ -52,7 +52,7 @@ one-long : (s : Sources) (k i : ℕ) → length (counts.prune-one s k i .rows) �
 unfolding counts.prune-one
 one-long s k i = go (ltb k (counts.total-at (s .rows) i))
   where
-    go : (b : Bool) → length (counts.choose b (sources (s .count + 1) (set (set (s .rows) i (replicate 8 0)) (s .count) (counts.counted-row (s .rows) i))) (sources (s .count) (set (s .rows) i (replicate 8 0))) .rows) ≡ length (s .rows)
+    go : (b : Bool) → length (cond b (sources (s .count + 1) (set (set (s .rows) i (replicate 8 0)) (s .count) (counts.counted-row (s .rows) i))) (sources (s .count) (set (s .rows) i (replicate 8 0))) .rows) ≡ length (s .rows)
     go true = length-set (set (s .rows) i (replicate 8 0)) (s .count) _ ∙ length-set (s .rows) i _
     go false = length-set (s .rows) i _
 
@@ -70,7 +70,7 @@ pruned-freed : (size : ℕ) (s : Sources) → 0 < size → Kept size s → Freed
 unfolding counts.pruned
 pruned-freed size s z k = go (ltb (s .count) (length (s .rows))) refl
   where
-    go : (b : Bool) → ltb (s .count) (length (s .rows)) ≡ b → Freed size (counts.choose b s (counts.prune (s .rows) (counts.keep-from (counts.totals (s .rows) (s .count))) (s .count)))
+    go : (b : Bool) → ltb (s .count) (length (s .rows)) ≡ b → Freed size (cond b s (counts.prune (s .rows) (counts.keep-from (counts.totals (s .rows) (s .count))) (s .count)))
     go true e = record { long = k .long; few = omega (arith, ltb-true (s .count) (length (s .rows)) e, k .long) }
     go false e =
         let l : length (s .rows) ≤ s .count = ltb-false (s .count) (length (s .rows)) e in
@@ -108,7 +108,7 @@ module _ (size : ℕ) where
   unfolding shed.again
   again-fine s clk f = go (leb 1 (s .head .scan .remaining)) refl
     where
-      go : (b : Bool) → leb 1 (s .head .scan .remaining) ≡ b → Fine size (shed.choose b (shed.visit s) s .head) clk
+      go : (b : Bool) → leb 1 (s .head .scan .remaining) ≡ b → Fine size (cond b (shed.visit s) s .head) clk
       go true e = visit-fine (s .head) (s .rows) (s .hist) clk (leb-true 1 (s .head .scan .remaining) e) f
       go false e = f
 
@@ -120,7 +120,7 @@ module _ (size : ℕ) where
   unfolding shed.ended
   ended-fine h g clk f = go (eqb (h .scan .remaining) 0)
     where
-      go : (b : Bool) → Fine size (shed.choose b (shed.trimmed h g) h) clk
+      go : (b : Bool) → Fine size (cond b (shed.trimmed h g) h) clk
       go true = trimmed-fine h g clk f
       go false = f
 
@@ -132,7 +132,7 @@ module _ (size : ℕ) where
   unfolding shed.begun
   begun-fine h g clk f = go (leb 1 (h .scan .remaining)) (ltb clk (h .scan .«began_ms» + 500))
     where
-      go : (c d : Bool) → Fine size (shed.choose c (shed.started h g) (shed.choose d (shed.started h g) (shed.started (shed.opened h clk) wants.cleared)) .head) clk
+      go : (c d : Bool) → Fine size (cond c (shed.started h g) (cond d (shed.started h g) (shed.started (shed.opened h clk) wants.cleared)) .head) clk
       go true d = f
       go false true = f
       go false false = opened-fine h clk f
@@ -142,7 +142,7 @@ module _ (size : ℕ) where
   scanned-fine h m g clk f = go (shed.begun h g clk) (begun-fine h g clk f)
     where
       by : (s : shed.Started) → Fine size (s .head) clk → (c : Bool) → leb 1 (s .head .scan .remaining) ≡ c
-          → Fine size (shed.choose c (shed.ended-at (shed.again (shed.visit (shed.scanning (s .head) m (s .hist))))) (shed.scanning (s .head) m (s .hist)) .head) clk
+          → Fine size (cond c (shed.ended-at (shed.again (shed.visit (shed.scanning (s .head) m (s .hist))))) (shed.scanning (s .head) m (s .hist)) .head) clk
       by s b true e =
           let v = shed.visit (shed.scanning (s .head) m (s .hist)) in
           ended-fine (shed.again v .head) (shed.again v .hist) clk (again-fine v clk (visit-fine (s .head) m (s .hist) clk (leb-true 1 (s .head .scan .remaining) e) b))
@@ -178,7 +178,7 @@ module _ (size : ℕ) where
   unfolding shed.told
   told-fine h i k w v cost clk f l = go (is-admitted v)
     where
-      go : (c : Bool) → Tallied (shed.choose c (shed.tally h i k) (shed.tallied (shed.tally h i k) w (shed.cause-of v) (getD cost 0 0))) clk
+      go : (c : Bool) → Tallied (cond c (shed.tally h i k) (shed.tallied (shed.tally h i k) w (shed.cause-of v) (getD cost 0 0))) clk
       go true = record { fine = f; long = l }
       go false = tallied-fine h i k w (shed.cause-of v) (getD cost 0 0) clk f l
 

@@ -106,17 +106,13 @@ module _ (Name : Type 0) (same : Name → Name → Bool) (is : (u v : Name) → 
       ∙ ap (λ (y : Kept). demand.dropped (goes Name same shares room is self u (stale scanned now) rs) y now) (get-other Name same shares room is self v u x (s .rows) e)
 
   -- ---- a call as the record r sees it
-  abbrev pick : Bool → Deed → Deed → Deed
-  pick true x y = x
-  pick false x y = y
-
   abbrev judge-deed : Bool → K → K → S → ℕ → Batch → List Float → (R → Bool) → Deed
-  judge-deed m r k s clk b fill scanned = pick m (Here b fill)
+  judge-deed m r k s clk b fill scanned = cond m (Here b fill)
       (There b (credit-holds (seen k s) clk b fill) (leaves r (stale scanned (max (b .stamp) clk)) (shed.rows-with Name same shares room k (judged k s clk b fill .used) (s .rows))))
 
   abbrev deed : K → S → ℕ → C → Deed
   deed r s clk (Judge u b fill scanned) = judge-deed (same-key r (resolve s u)) r (resolve s u) s clk b fill scanned
-  deed r s clk (Cut u c) = pick (same-key r (resolve s u)) (demand.Cut c) (CutThere c)
+  deed r s clk (Cut u c) = cond (same-key r (resolve s u)) (demand.Cut c) (CutThere c)
   deed r s clk Other = Idle
 
   judge-follow : (m : Bool) (r k : K) (s : S) (clk : ℕ) (b : Batch) (fill : List Float) (scanned : R → Bool) → Apart (s .rows) → same-key r k ≡ m
@@ -137,7 +133,7 @@ module _ (Name : Type 0) (same : Name → Name → Bool) (is : (u v : Name) → 
   cut-other (own u) (own v) s clk c e = get-other Name same shares room is self v u (flow.handed-back (demand.found (look (own v) s) clk) (priced c)) (s .rows) e
 
   cut-follow : (m : Bool) (r k : K) (s : S) (clk : ℕ) (c : ℕ → ℕ) → same-key r k ≡ m
-      → seen r (shed.after Name same shares room k (does (seen k s) clk (demand.Cut c)) s) ≡ does (seen r s) clk (pick m (demand.Cut c) (CutThere c))
+      → seen r (shed.after Name same shares room k (does (seen k s) clk (demand.Cut c)) s) ≡ does (seen r s) clk (cond m (demand.Cut c) (CutThere c))
   cut-follow true r k s clk c e =
       subst (λ (q : K). seen q (shed.after Name same shares room k (does (seen k s) clk (demand.Cut c)) s) ≡ does (seen q s) clk (demand.Cut c)) (sym (key-of r k e))
       (ap (λ (y : Kept). record { bucket = does (seen k s) clk (demand.Cut c) .bucket; used = y }) (cut-look k s clk c))
@@ -182,7 +178,7 @@ module _ (Name : Type 0) (same : Name → Name → Bool) (is : (u v : Name) → 
       abbrev over : List Deed → State
       over h = state rate ceiling (is-shared r) h
 
-      stamp-pick : (m : Bool) (x y : Deed) (t : ℕ) → demand.stamp x ≡ t → demand.stamp y ≡ t → t ≡ demand.stamp (pick m x y)
+      stamp-pick : (m : Bool) (x y : Deed) (t : ℕ) → demand.stamp x ≡ t → demand.stamp y ≡ t → t ≡ demand.stamp (cond m x y)
       stamp-pick true x y t e f = sym e
       stamp-pick false x y t e f = sym f
 
@@ -236,7 +232,7 @@ module _ (Name : Type 0) (same : Name → Name → Bool) (is : (u v : Name) → 
             go false e = ap (λ (v : Verdict). cond (is-admitted v) (b .cost d) 0) (verdict-other h (resolve (store h) u) b fill)
         admitted-same (Cut u c) h = go (same-key r (resolve (store h) u))
           where
-            go : (m : Bool) → 0 ≡ demand.admitted rate ceiling (is-shared r) d (pick m (demand.Cut c) (CutThere c)) (shown see h)
+            go : (m : Bool) → 0 ≡ demand.admitted rate ceiling (is-shared r) d (cond m (demand.Cut c) (CutThere c)) (shown see h)
             go true = refl
             go false = refl
         admitted-same Other h = refl
@@ -250,7 +246,7 @@ module _ (Name : Type 0) (same : Name → Name → Bool) (is : (u v : Name) → 
             go false = refl
         handed-same (Cut u c) h = go (same-key r (resolve (store h) u))
           where
-            go : (m : Bool) → c d ≡ demand.handed d (pick m (demand.Cut c) (CutThere c)) (shown see h)
+            go : (m : Bool) → c d ≡ demand.handed d (cond m (demand.Cut c) (CutThere c)) (shown see h)
             go true = refl
             go false = refl
         handed-same Other h = refl
@@ -266,7 +262,7 @@ module _ (Name : Type 0) (same : Name → Name → Bool) (is : (u v : Name) → 
             go false e = refl
         admitted-on-same (Cut u c) h = go (same-key r (resolve (store h) u))
           where
-            go : (m : Bool) → 0 ≡ demand.admitted-here rate ceiling (is-shared r) d (pick m (demand.Cut c) (CutThere c)) (shown see h)
+            go : (m : Bool) → 0 ≡ demand.admitted-here rate ceiling (is-shared r) d (cond m (demand.Cut c) (CutThere c)) (shown see h)
             go true = refl
             go false = refl
         admitted-on-same Other h = refl
@@ -281,7 +277,7 @@ module _ (Name : Type 0) (same : Name → Name → Bool) (is : (u v : Name) → 
             go false = refl
         handed-on-same (Cut u c) h = go (same-key r (resolve (store h) u))
           where
-            go : (m : Bool) → cond m (c d) 0 ≡ demand.handed-here d (pick m (demand.Cut c) (CutThere c)) (shown see h)
+            go : (m : Bool) → cond m (c d) 0 ≡ demand.handed-here d (cond m (demand.Cut c) (CutThere c)) (shown see h)
             go true = refl
             go false = refl
         handed-on-same Other h = refl
@@ -295,7 +291,7 @@ module _ (Name : Type 0) (same : Name → Name → Bool) (is : (u v : Name) → 
             go false = refl
         tried-on-same (Cut u c) h = go (same-key r (resolve (store h) u))
           where
-            go : (m : Bool) → 0 ≡ demand.tried-here d (pick m (demand.Cut c) (CutThere c)) (shown see h)
+            go : (m : Bool) → 0 ≡ demand.tried-here d (cond m (demand.Cut c) (CutThere c)) (shown see h)
             go true = refl
             go false = refl
         tried-on-same Other h = refl
@@ -309,7 +305,7 @@ module _ (Name : Type 0) (same : Name → Name → Bool) (is : (u v : Name) → 
             go false = refl
         fill-on-same (Cut u c) h = go (same-key r (resolve (store h) u))
           where
-            go : (m : Bool) → 0 ≡ demand.fill-here d (pick m (demand.Cut c) (CutThere c)) (shown see h)
+            go : (m : Bool) → 0 ≡ demand.fill-here d (cond m (demand.Cut c) (CutThere c)) (shown see h)
             go true = refl
             go false = refl
         fill-on-same Other h = refl
@@ -323,7 +319,7 @@ module _ (Name : Type 0) (same : Name → Name → Bool) (is : (u v : Name) → 
           go false = refl
       judged-on-same (Cut u c) h = go (same-key r (resolve (store h) u))
         where
-          go : (m : Bool) → false ≡ demand.here (pick m (demand.Cut c) (CutThere c)) (shown see h)
+          go : (m : Bool) → false ≡ demand.here (cond m (demand.Cut c) (CutThere c)) (shown see h)
           go true = refl
           go false = refl
       judged-on-same Other h = refl
@@ -337,7 +333,7 @@ module _ (Name : Type 0) (same : Name → Name → Bool) (is : (u v : Name) → 
           go false = (l .0, l .1)
       lawful-same (Cut u c) h l = go (same-key r (resolve (store h) u))
         where
-          go : (m : Bool) → demand.Lawful (pick m (demand.Cut c) (CutThere c))
+          go : (m : Bool) → demand.Lawful (cond m (demand.Cut c) (CutThere c))
           go true = l
           go false = l
       lawful-same Other h l = tt

@@ -4,13 +4,13 @@ use Prim.Native.Nat.{ℕ, zero, suc, _+_, _≤_, _<_}
 use native.Mathlib.Numerals.{add-one}
 use native.Mathlib.Omega.{arith}
 use native.Mathlib.Decide.{ℕ-discrete}
-use mathlib.Core.Bool.{Bool, true, false}
+use mathlib.Core.Bool.{Bool, true, false, cond}
 use mathlib.Core.List.{List, [], _∷_, _++_, map}
 use lib.ListN.{length, getD}
 use Rattle.store.specs.Store.{Rows, rows, words-at, use-at}
 use Rattle.store.proofs.Places.{Same}
 use Rattle.store_retain.specs.Retain.{Kept, retained}
-use Rattle.store_retain.specs.Laws.{Record, record-at as lent-at, stale as lent-stale, choose as lent-choose, records, without}
+use Rattle.store_retain.specs.Laws.{Record, record-at as lent-at, stale as lent-stale, records, without}
 use Rattle.store_retain.proofs.Places.{Long}
 use Rattle.store_retain.proofs.Laws.{later, retains}
 use Rattle.fair.proofs.View as view
@@ -37,7 +37,7 @@ unfolding without
 each-without w p [] none = none
 each-without w p (r ∷ l) (more h e) = go (p r) (each-without w p l e)
   where
-    go : (b : Bool) → Each w (without p l) → Each w (lent-choose b (without p l) (r ∷ without p l))
+    go : (b : Bool) → Each w (without p l) → Each w (cond b (without p l) (r ∷ without p l))
     go true f = f
     go false f = more h f
 
@@ -66,9 +66,6 @@ module _ (room : ℕ) where
 
   abbrev stale : ℕ → ℕ → R′ → Bool
   stale t a r = view.stale room t a r
-
-  abbrev choose : {A : Type 0} → Bool → A → A → A
-  choose b x y = view.choose room b x y
 
   abbrev sweep : (R′ → Bool) → List R′ → List R′
   sweep p rs = view.sweep room p rs
@@ -110,9 +107,9 @@ module _ (room : ℕ) where
   sweep-of : (p : R′ → Bool) (q : Record → Bool) → ((r : Record) → p (of r) ≡ q r) → (l : List Record) → sweep p (map of l) ≡ map of (without q l)
   unfolding without
   sweep-of p q f [] = refl
-  sweep-of p q f (r ∷ rs) = ap (λ (b : Bool). choose b (sweep p (map of rs)) (of r ∷ sweep p (map of rs))) (f r) ∙ go (sweep-of p q f rs) (q r)
+  sweep-of p q f (r ∷ rs) = ap (λ (b : Bool). cond b (sweep p (map of rs)) (of r ∷ sweep p (map of rs))) (f r) ∙ go (sweep-of p q f rs) (q r)
     where
-      go : sweep p (map of rs) ≡ map of (without q rs) → (b : Bool) → choose b (sweep p (map of rs)) (of r ∷ sweep p (map of rs)) ≡ map of (lent-choose b (without q rs) (r ∷ without q rs))
+      go : sweep p (map of rs) ≡ map of (without q rs) → (b : Bool) → cond b (sweep p (map of rs)) (of r ∷ sweep p (map of rs)) ≡ map of (cond b (without q rs) (r ∷ without q rs))
       go e true = e
       go e false = ap (λ (l : List R′). of r ∷ l) e
 

@@ -3,7 +3,7 @@ use mathlib.Core.Path.{_≡_, refl, sym, ap, _∙_, subst}
 use Prim.Native.Nat.{ℕ, _+_, _-_, _≤_, _<_}
 use native.Mathlib.Nat.{le-refl}
 use native.Mathlib.Omega.{arith}
-use mathlib.Core.Bool.{Bool, true, false, _&&_, cond, true≢false}
+use mathlib.Core.Bool.{Bool, true, false, _&&_, cond, true≢false, _||_}
 use mathlib.Core.List.{List, [], _∷_}
 use lib.Dec.{eqb, leb, ltb}
 use lib.ListN.{length, length-replicate}
@@ -39,21 +39,18 @@ module _ (room : ℕ) where
   abbrev sweep : (R′ → Bool) → List R′ → List R′
   sweep p rs = view.sweep room p rs
 
-  abbrev pick : {A : Type 0} → Bool → A → A → A
-  pick b x y = view.choose room b x y
-
-  sweep-twice : (p q : R′ → Bool) (xs : List R′) → sweep q (sweep p xs) ≡ sweep (λ (r : R′). shed.or (p r) (q r)) xs
+  sweep-twice : (p q : R′ → Bool) (xs : List R′) → sweep q (sweep p xs) ≡ sweep (λ (r : R′). _||_ (p r) (q r)) xs
   sweep-twice p q [] = refl
   sweep-twice p q (x ∷ xs) = go (sweep-twice p q xs) (p x) refl
     where
-      go : sweep q (sweep p xs) ≡ sweep (λ (r : R′). shed.or (p r) (q r)) xs → (b : Bool) → p x ≡ b
-          → sweep q (pick b (sweep p xs) (x ∷ sweep p xs)) ≡ pick (shed.or b (q x)) (sweep (λ (r : R′). shed.or (p r) (q r)) xs) (x ∷ sweep (λ (r : R′). shed.or (p r) (q r)) xs)
+      go : sweep q (sweep p xs) ≡ sweep (λ (r : R′). _||_ (p r) (q r)) xs → (b : Bool) → p x ≡ b
+          → sweep q (cond b (sweep p xs) (x ∷ sweep p xs)) ≡ cond (_||_ b (q x)) (sweep (λ (r : R′). _||_ (p r) (q r)) xs) (x ∷ sweep (λ (r : R′). _||_ (p r) (q r)) xs)
       go i true e = i
-      go i false e = ap (λ (l : List R′). pick (q x) l (x ∷ l)) i
+      go i false e = ap (λ (l : List R′). cond (q x) l (x ∷ l)) i
 
   sweep-same : (p q : R′ → Bool) → ((r : R′) → p r ≡ q r) → (xs : List R′) → sweep p xs ≡ sweep q xs
   sweep-same p q f [] = refl
-  sweep-same p q f (x ∷ xs) = ap (λ (b : Bool). pick b (sweep p xs) (x ∷ sweep p xs)) (f x) ∙ ap (λ (l : List R′). pick (q x) l (x ∷ l)) (sweep-same p q f xs)
+  sweep-same p q f (x ∷ xs) = ap (λ (b : Bool). cond b (sweep p xs) (x ∷ sweep p xs)) (f x) ∙ ap (λ (l : List R′). cond (q x) l (x ∷ l)) (sweep-same p q f xs)
 
   sweep-none : (xs : List R′) → sweep (λ (r : R′). false) xs ≡ xs
   sweep-none [] = refl
@@ -123,7 +120,7 @@ module _ (room : ℕ) where
     unfolding shed.again
     again-bound h m g st clk b = go (leb 1 (h .scan .remaining))
       where
-        go : (c : Bool) → Bound rate (shed.choose c (shed.visit (shed.scanning h m g)) (shed.scanning h m g) .head) (shed.choose c (shed.visit (shed.scanning h m g)) (shed.scanning h m g) .rows)
+        go : (c : Bool) → Bound rate (cond c (shed.visit (shed.scanning h m g)) (shed.scanning h m g) .head) (cond c (shed.visit (shed.scanning h m g)) (shed.scanning h m g) .rows)
             (swept (λ (r : R′). cond c (view.stale room (h .scan .next) (h .scan .«at_ms») r) false) st) clk
         go true = visit-bound h m g st clk b
         go false = re-rows h m st clk (sweep (λ (r : R′). false) (st .rows)) (sym (sweep-none (st .rows))) b
@@ -160,7 +157,7 @@ module _ (room : ℕ) where
     unfolding shed.ended
     ended-bound h m g st clk b = go (eqb (h .scan .remaining) 0)
       where
-        go : (c : Bool) → Bound rate (shed.choose c (shed.trimmed h g) h) m st clk
+        go : (c : Bool) → Bound rate (cond c (shed.trimmed h g) h) m st clk
         go true = trimmed-bound h m g st clk b
         go false = b
 
@@ -190,7 +187,7 @@ module _ (room : ℕ) where
     unfolding shed.begun
     begun-bound h m g st clk b = go (leb 1 (h .scan .remaining)) (ltb clk (h .scan .«began_ms» + 500))
       where
-        go : (c d : Bool) → Bound rate (shed.choose c (shed.started h g) (shed.choose d (shed.started h g) (shed.started (shed.opened h clk) wants.cleared)) .head) m st clk
+        go : (c d : Bool) → Bound rate (cond c (shed.started h g) (cond d (shed.started h g) (shed.started (shed.opened h clk) wants.cleared)) .head) m st clk
         go true d = b
         go false true = b
         go false false = opened-bound h m st clk b
@@ -198,7 +195,7 @@ module _ (room : ℕ) where
     -- ---- THE SCAN of a judgement: one sweep of the rows of the tables that it visits, and more than 8 s old at its stamp
     abbrev pub came-from : Shedder → R′ → Bool
     came-from b r = cond (leb 1 (b .scan .remaining))
-        (shed.or (view.stale room (b .scan .next) (b .scan .«at_ms») r) (cond (leb 1 (b .scan .remaining - 1)) (view.stale room (b .scan .next + 1) (b .scan .«at_ms») r) false)) false
+        (_||_ (view.stale room (b .scan .next) (b .scan .«at_ms») r) (cond (leb 1 (b .scan .remaining - 1)) (view.stale room (b .scan .next + 1) (b .scan .«at_ms») r) false)) false
 
     -- the rows that the scan of a judgement drops
     abbrev pub came : Shedder → Hist → ℕ → R′ → Bool
@@ -206,7 +203,7 @@ module _ (room : ℕ) where
 
     visits-bound : (h : Shedder) (m : Rows) (g : Hist) (st : entry.S room) (clk : ℕ) → Bound rate h m st clk
         → Bound rate (shed.again (shed.visit (shed.scanning h m g)) .head) (shed.again (shed.visit (shed.scanning h m g)) .rows)
-        (swept (λ (r : R′). shed.or (view.stale room (h .scan .next) (h .scan .«at_ms») r) (cond (leb 1 (h .scan .remaining - 1)) (view.stale room (h .scan .next + 1) (h .scan .«at_ms») r) false)) st) clk
+        (swept (λ (r : R′). _||_ (view.stale room (h .scan .next) (h .scan .«at_ms») r) (cond (leb 1 (h .scan .remaining - 1)) (view.stale room (h .scan .next + 1) (h .scan .«at_ms») r) false)) st) clk
     unfolding shed.visit shed.visited
     visits-bound h m g st clk b =
         let v = shed.visit (shed.scanning h m g) in
@@ -226,7 +223,7 @@ module _ (room : ℕ) where
         (stale-old (b .scan .next) (b .scan .«at_ms») clk l r) (stale-old (b .scan .next + 1) (b .scan .«at_ms») clk l r)
       where
         go : (c p d q : Bool) → (p ≡ true → ltb (r .used .«at_ms» + stale-after) clk ≡ true) → (q ≡ true → ltb (r .used .«at_ms» + stale-after) clk ≡ true)
-            → cond c (shed.or p (cond d q false)) false ≡ cond c (shed.or p (cond d q false)) false && ltb (r .used .«at_ms» + stale-after) clk
+            → cond c (_||_ p (cond d q false)) false ≡ cond c (_||_ p (cond d q false)) false && ltb (r .used .«at_ms» + stale-after) clk
         go false p d q f g = refl
         go true true d q f g = sym (f refl)
         go true false false q f g = refl
@@ -242,9 +239,9 @@ module _ (room : ℕ) where
         (go (shed.begun h g clk) (begun-bound h m g st clk b))
       where
         by : (s : shed.Started) → Bound rate (s .head) m st clk → (c : Bool)
-            → Bound rate (shed.choose c (shed.ended-at (shed.again (shed.visit (shed.scanning (s .head) m (s .hist))))) (shed.scanning (s .head) m (s .hist)) .head)
-            (shed.choose c (shed.ended-at (shed.again (shed.visit (shed.scanning (s .head) m (s .hist))))) (shed.scanning (s .head) m (s .hist)) .rows)
-            (swept (λ (r : R′). cond c (shed.or (view.stale room (s .head .scan .next) (s .head .scan .«at_ms») r) (cond (leb 1 (s .head .scan .remaining - 1)) (view.stale room (s .head .scan .next + 1) (s .head .scan .«at_ms») r) false)) false) st) clk
+            → Bound rate (cond c (shed.ended-at (shed.again (shed.visit (shed.scanning (s .head) m (s .hist))))) (shed.scanning (s .head) m (s .hist)) .head)
+            (cond c (shed.ended-at (shed.again (shed.visit (shed.scanning (s .head) m (s .hist))))) (shed.scanning (s .head) m (s .hist)) .rows)
+            (swept (λ (r : R′). cond c (_||_ (view.stale room (s .head .scan .next) (s .head .scan .«at_ms») r) (cond (leb 1 (s .head .scan .remaining - 1)) (view.stale room (s .head .scan .next + 1) (s .head .scan .«at_ms») r) false)) false) st) clk
         by s b true = ended-bound (shed.again (shed.visit (shed.scanning (s .head) m (s .hist))) .head) _ (shed.again (shed.visit (shed.scanning (s .head) m (s .hist))) .hist) _ clk (visits-bound (s .head) m (s .hist) st clk b)
         by s b false = re-rows (s .head) m st clk (sweep (λ (r : R′). false) (st .rows)) (sym (sweep-none (st .rows))) b
 

@@ -104,9 +104,6 @@ module _ (room : ℕ) where
   abbrev pub R : Type 0
   R = model.Row Name same shares room
 
-  abbrev pub choose : {A : Type 0} → Bool → A → A → A
-  choose b x y = model.choose Name same shares room b x y
-
   abbrev pub sweep : (R → Bool) → List R → List R
   sweep p rs = model.sweep Name same shares room p rs
 

@@ -1,7 +1,6 @@
 -- Demand 2's definitions, gathered under one name: those that the contracts of `start`, `judge`, `cut` and the readings cite, and what they are made of. No definition is made here.
 pub use Rattle.flow.specs.Flow.{zeros}
 unfoldable pub use Rattle.flow.specs.Flow.{numbers, fills}
-pub use Rattle.head.specs.Numbers.{choose, or}
 unfoldable pub use Rattle.head.specs.Questions.{is-rate, is-max, all-rates, is-unbounded, is-stamp, costs-held, stamps-whole, tables-whole, rooms-whole, tags-whole, sizes-whole, head-whole, memory-whole, start-asked, judge-asked, cut-asked}
 pub use Rattle.head.specs.Start.{Beginning, start-ends}
 unfoldable pub use Rattle.head.specs.Start.{buckets, first-levels, opening, start}

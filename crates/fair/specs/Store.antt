@@ -55,22 +55,18 @@ module _ (Name : Type 0) (same : Name → Name → Bool) (shares : Name → Bool
   Lawful Other = Unit {0}
 
   -- ---- rows
-  abbrev pub choose : {A : Type 0} → Bool → A → A → A
-  choose true a b = a
-  choose false a b = b
-
   abbrev pub find : Name → List Row → Kept
   find u [] = absent
-  find u (r ∷ rs) = choose (same u (r .name)) (present (r .used)) (find u rs)
+  find u (r ∷ rs) = cond (same u (r .name)) (present (r .used)) (find u rs)
 
   -- in its row, or in a new one at the end
   abbrev pub put : Name → Use → List Row → List Row
   put u x [] = record { name = u; used = x } ∷ []
-  put u x (r ∷ rs) = choose (same u (r .name)) (record { name = r .name; used = x } ∷ rs) (r ∷ put u x rs)
+  put u x (r ∷ rs) = cond (same u (r .name)) (record { name = r .name; used = x } ∷ rs) (r ∷ put u x rs)
 
   abbrev pub sweep : (Row → Bool) → List Row → List Row
   sweep p [] = []
-  sweep p (r ∷ rs) = choose (p r) (sweep p rs) (r ∷ sweep p rs)
+  sweep p (r ∷ rs) = cond (p r) (sweep p rs) (r ∷ sweep p rs)
 
   -- ---- records
   abbrev pub look : Key → Store → Kept
@@ -82,7 +78,7 @@ module _ (Name : Type 0) (same : Name → Name → Bool) (shares : Name → Bool
 
   -- the record that a sender uses
   abbrev pub resolve : Store → Name → Key
-  resolve s u = choose (shares u) shared (choose (demand.there (find u (s .rows))) (own u) (choose (ltb (length (s .rows)) room) (own u) shared))
+  resolve s u = cond (shares u) shared (cond (demand.there (find u (s .rows))) (own u) (cond (ltb (length (s .rows)) room) (own u) shared))
 
   abbrev pub rows-with : Key → Kept → List Row → List Row
   rows-with shared x rs = rs

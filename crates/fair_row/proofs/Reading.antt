@@ -1,6 +1,6 @@
 -- The reading of a row: the number of its refusal and the buffer after it, by what the program asked. Assumes nothing.
 use mathlib.Core.Path.{_≡_, refl, sym, ap, _∙_}
-use mathlib.Core.Bool.{Bool, true, false}
+use mathlib.Core.Bool.{Bool, true, false, cond}
 use mathlib.Core.List.{List, []}
 use Prim.Native.Nat.{ℕ, _≤_}
 use lib.Dec.{eqb}
@@ -14,7 +14,6 @@ use Rattle.head.specs.declared.Reading.{Reading}
 use Rattle.head.specs.declared.LevelRead.{LevelRead}
 use Rattle.head.specs.declared.RateRead.{RateRead}
 use Rattle.head.specs.declared.BoundedRead.{BoundedRead}
-use Rattle.head.specs.Numbers.{choose}
 use Rattle.head.specs.Answers.{reading-number, level-number, rate-number, bounded-number}
 use Rattle.head.specs.Readings.{visited, cut-batches, level-read, rate-read, is-bounded}
 use Rattle.codes.specs.Numbers.{cause-of, dim-of}
@@ -50,7 +49,7 @@ module _ (h : Shedder) (m : Memory) (which n : ℕ) (x : ℕ) where
   bounded-is r e f g k er ex = rw (e, f, g, k) (ex ∙ ap bounded-number er)
 
 -- ---- the report and the call beside it
-bytes-of : (t : Bool) (a : ℕ) (xs : List ℕ) → reports.bytes (reports.choose t (Bytes (length xs)) (Refused a)) ≡ length (reports.choose t xs [])
+bytes-of : (t : Bool) (a : ℕ) (xs : List ℕ) → reports.bytes (cond t (Bytes (length xs)) (Refused a)) ≡ length (cond t xs [])
 bytes-of true a xs = refl
 bytes-of false a xs = refl
 
@@ -96,7 +95,7 @@ module _ (s : State) (row page : List ℕ) where
 
 -- a reading of the head leaves the buffer as it was
 picked : (s : State) (page : List ℕ) (a b c d : Bool) (cause : Cause) (dim dim' : Dim)
-    → page ≡ read-page s (choose a (calls.Count cause) (choose b calls.Visited (choose c (calls.Level dim) (choose d (calls.Rate dim') calls.IsBounded)))) page
+    → page ≡ read-page s (cond a (calls.Count cause) (cond b calls.Visited (cond c (calls.Level dim) (cond d (calls.Rate dim') calls.IsBounded)))) page
 picked s page true b c d cause dim dim' = refl
 picked s page false true c d cause dim dim' = refl
 picked s page false false true d cause dim dim' = refl

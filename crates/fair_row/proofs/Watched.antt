@@ -17,7 +17,6 @@ use Rattle.store.specs.Store.{Rows}
 use Rattle.head.specs.declared.Shedder.{Shedder}
 use Rattle.head.specs.declared.Answer.the-variants as answer
 use Rattle.head.specs.Answers.{judge-number}
-use Rattle.head.specs.Numbers.{choose}
 use Rattle.head.specs.Questions.{is-unbounded, judge-asked}
 use Rattle.head.proofs.Asked.{asked-ready}
 use Rattle.store_entry.specs.Entering.{entry, entered, place, is-misplaced}
@@ -65,7 +64,7 @@ told-shared tags units tracked room w u e = rw e (told-shared-by w u _)
 -- ---- the record that is used
 own-by : (m m' : Rows) (i tracked room tags units : ℕ) (over found fits : Bool) → ltb i tracked ≡ found → ltb tracked room ≡ fits → room ≤ tags → units ≡ room → tracked ≤ room
     → cond over false (cond fits true (cond (ltb tags tracked) false (cond (ltb units tracked) false found)))
-    ≡ ltb (choose over (entered (place room tracked) m) (choose found (entered (place i tracked) m) (choose fits (entered (place tracked (tracked + 1)) m') (entered (place room tracked) m))) .place .at) room
+    ≡ ltb (cond over (entered (place room tracked) m) (cond found (entered (place i tracked) m) (cond fits (entered (place tracked (tracked + 1)) m') (entered (place room tracked) m))) .place .at) room
 own-by m m' i tracked room tags units true found fits ef et eh eu l = sym (le-ltb room room (omega arith))
 own-by m m' i tracked room tags units false true true ef et eh eu l = sym (lt-ltb i room (omega (arith, l, ltb-true i tracked ef)))
 own-by m m' i tracked room tags units false true false ef et eh eu l =
@@ -81,7 +80,7 @@ own-is m tracked room u now eh eu l =
     own-by m (store.added m tracked (sender.name-of u) (flow.added now)) (store.find (m .tags) (m .units) (sender.name-of u) tracked) tracked room (length (m .tags)) (length (m .units)) (sender.is-overflow u) _ _ refl refl eh eu l
 
 -- ---- not refused: questions 3 and 4 were answered yes
-asked-by : (h : Shedder) (m : Memory) (n : ℕ) (a : Bool) (x : Judged) → eqb n 0 ≡ a → judge-number (choose a x (judge-ends (answer.Refused n) h m) .answer) ≡ 0 → n ≡ 0
+asked-by : (h : Shedder) (m : Memory) (n : ℕ) (a : Bool) (x : Judged) → eqb n 0 ≡ a → judge-number (cond a x (judge-ends (answer.Refused n) h m) .answer) ≡ 0 → n ≡ 0
 unfolding judge-number
 asked-by h m n true x e f = eqb-true n 0 e
 asked-by h m n false x e f = f
@@ -91,8 +90,8 @@ asked : (h : Shedder) (m : Memory) (u : unit.Unit) (cost : List ℕ) (t : ℕ) �
 unfolding judging.judge
 asked h m u cost t f =
     asked-by h m (judge-asked h (length (m .rows .tags)) (length (m .rows .units)) (length (m .rows .uses)) (length (m .counted)) cost t) _
-    (choose (is-unbounded (h .flow .rate)) (judge-ends answer.Admitted h m)
-    (choose (is-misplaced (m .rows .tags) (m .rows .units) (h .tracked) (sender.name-of u)) (judge-ends (answer.Refused 9) h m) (bounded h m u cost t)))
+    (cond (is-unbounded (h .flow .rate)) (judge-ends answer.Admitted h m)
+    (cond (is-misplaced (m .rows .tags) (m .rows .units) (h .tracked) (sender.name-of u)) (judge-ends (answer.Refused 9) h m) (bounded h m u cost t)))
     refl f
 
 pub watched-is : (h : Shedder) (m : Memory) (u : unit.Unit) (cost : List ℕ) (t : ℕ) (w : unit.Unit) → judge-number (judging.judge h m u cost t .answer) ≡ 0

@@ -16,7 +16,6 @@ use Rattle.wants.specs.Wants.{Hist}
 use Rattle.head.specs.declared.Shedder.{Shedder}
 use Rattle.head.specs.declared.Answer.{Answer}
 use Rattle.head.specs.declared.Answer.the-variants as answer
-use Rattle.head.specs.Numbers.{choose}
 use Rattle.codes.specs.Numbers.{cause-of, dim-of}
 use Rattle.report.specs.Report as reports
 use Rattle.judge.specs.Judging as judging
@@ -49,15 +48,15 @@ cut-in row = Cut (sender.unit-of (words-in row)) (cause-of (getD row 6 0)) (cost
 -- what is read of the head alone, by the row's first word and its stamp, cause or dimension: 4 the batches cut for a cause, 5 the tables visited, 6 a level, 7 a rate, anything else whether the relay is bounded
 unfoldable pub head-reading : ℕ → ℕ → Reading
 head-reading which n =
-    choose (eqb which 4) (Count (cause-of n)) (choose (eqb which 5) Visited (choose (eqb which 6) (Level (dim-of n)) (choose (eqb which 7) (Rate (dim-of n)) IsBounded)))
+    cond (eqb which 4) (Count (cause-of n)) (cond (eqb which 5) Visited (cond (eqb which 6) (Level (dim-of n)) (cond (eqb which 7) (Rate (dim-of n)) IsBounded)))
 
 -- 2 is a report into the buffer, 3 the call beside it
 unfoldable pub reading-in : List ℕ → List ℕ → Reading
-reading-in row page = choose (eqb (getD row 0 0) 2) (Report page) (choose (eqb (getD row 0 0) 3) (ReportBeside page) (head-reading (getD row 0 0) (getD row 6 0)))
+reading-in row page = cond (eqb (getD row 0 0) 2) (Report page) (cond (eqb (getD row 0 0) 3) (ReportBeside page) (head-reading (getD row 0 0) (getD row 6 0)))
 
 -- 0 is a judgement, 1 a cut, anything else a reading; `page` is the report's buffer as the call gets it
 unfoldable pub call-in : List ℕ → List ℕ → Call
-call-in row page = choose (eqb (getD row 0 0) 0) (judge-in row) (choose (eqb (getD row 0 0) 1) (cut-in row) (Read (reading-in row page)))
+call-in row page = cond (eqb (getD row 0 0) 0) (judge-in row) (cond (eqb (getD row 0 0) 1) (cut-in row) (Read (reading-in row page)))
 
 -- ---- the buffer
 -- a report leaves what its definition says, any other call leaves the buffer as it was

@@ -1,4 +1,3 @@
-pub mod Numbers
 pub mod Questions
 pub mod Answers
 pub mod Start

@@ -2,13 +2,12 @@
 -- Definitions are shut (`unfoldable`): a proof opens the one that it is about.
 use Prim.Native.Nat.{ℕ, _+_, _≤_, _<_}
 use mathlib.Core.Path.{_≡_}
-use mathlib.Core.Bool.{Bool, true, false, _&&_, cond}
+use mathlib.Core.Bool.{Bool, true, false, _&&_, cond, _||_}
 use mathlib.Core.List.{List}
 use lib.Dec.{eqb, leb, ltb}
 use lib.ListN.{getD}
-use Rattle.flow.specs.Flow.{all}
+use Rattle.flow.specs.Flow.{all, dims}
 use Rattle.head.specs.declared.Shedder.{Shedder}
-use Rattle.head.specs.Numbers.{dims, or}
 
 -- ---- question 1: both rates u64::MAX (unbounded), or each 1 to 2^40
 unfoldable pub is-rate : ℕ → Bool
@@ -24,7 +23,7 @@ unfoldable pub is-unbounded : List ℕ → Bool
 is-unbounded xs = all (λ (d : ℕ). is-max (getD xs d 0)) dims
 
 abbrev pub rates-whole : List ℕ → Bool
-rates-whole rate = or (is-unbounded rate) (all-rates rate)
+rates-whole rate = is-unbounded rate || all-rates rate
 
 -- ---- question 2: 1 to 131,072 unit records, 2 to 4,097 counted records; in question 3 also: no more in use than there are, the last counted one spare
 unfoldable pub rooms-whole : ℕ → ℕ → ℕ → ℕ → Bool

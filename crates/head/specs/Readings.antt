@@ -1,4 +1,5 @@
 -- The readings, each through question 3: the tables visited, the batches cut for a cause, a level, a rate, whether the relay is bounded. Definitions only.
+use mathlib.Core.Bool.{cond}
 use Prim.Native.Nat.{ℕ}
 use lib.ListN.{getD}
 use lib.Ieee as Ieee
@@ -15,7 +16,6 @@ use Rattle.head.specs.declared.RateRead.the-variants as rate-reads
 use Rattle.head.specs.declared.Reading.the-variants as reading
 use Rattle.head.specs.declared.BoundedRead.{BoundedRead}
 use Rattle.head.specs.declared.BoundedRead.the-variants as bounded-reads
-use Rattle.head.specs.Numbers.{choose}
 use Rattle.head.specs.Questions.{is-unbounded, head-whole}
 
 -- a cause's place among the counts
@@ -25,10 +25,10 @@ index-of cause.OverShare = 1
 index-of cause.RelayRate = 2
 
 unfoldable pub visited : Shedder → Reading
-visited h = choose (head-whole h) (reading.Whole (h .visits)) (reading.Refused 3)
+visited h = cond (head-whole h) (reading.Whole (h .visits)) (reading.Refused 3)
 
 unfoldable pub cut-batches : Shedder → Cause → Reading
-cut-batches h c = choose (head-whole h) (reading.Whole (getD (h .batches) (index-of c) 0)) (reading.Refused 3)
+cut-batches h c = cond (head-whole h) (reading.Whole (getD (h .batches) (index-of c) 0)) (reading.Refused 3)
 
 -- a dimension's place
 unfoldable pub dim-of : Dim → ℕ
@@ -36,10 +36,10 @@ dim-of dim.Receptions = 0
 dim-of dim.Bytes = 1
 
 unfoldable pub level-read : Shedder → Dim → LevelRead
-level-read h d = choose (head-whole h) (level-reads.Level (getD (h .level) (dim-of d) Ieee.nan)) (level-reads.Refused 3)
+level-read h d = cond (head-whole h) (level-reads.Level (getD (h .level) (dim-of d) Ieee.nan)) (level-reads.Refused 3)
 
 unfoldable pub rate-read : Shedder → Dim → RateRead
-rate-read h d = choose (head-whole h) (choose (is-unbounded (h .flow .rate)) rate-reads.Unbounded (rate-reads.PerSecond (getD (h .flow .rate) (dim-of d) 0))) (rate-reads.Refused 3)
+rate-read h d = cond (head-whole h) (cond (is-unbounded (h .flow .rate)) rate-reads.Unbounded (rate-reads.PerSecond (getD (h .flow .rate) (dim-of d) 0))) (rate-reads.Refused 3)
 
 unfoldable pub is-bounded : Shedder → BoundedRead
-is-bounded h = choose (head-whole h) (choose (is-unbounded (h .flow .rate)) bounded-reads.Unbounded bounded-reads.Bounded) (bounded-reads.Refused 3)
+is-bounded h = cond (head-whole h) (cond (is-unbounded (h .flow .rate)) bounded-reads.Unbounded bounded-reads.Bounded) (bounded-reads.Refused 3)

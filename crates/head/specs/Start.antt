@@ -1,4 +1,5 @@
 -- The start: the head that it makes. Definitions only.
+use mathlib.Core.Bool.{cond}
 use Prim.Native.Nat.{ℕ}
 use mathlib.Core.List.{List}
 use lib.Dec.{eqb}
@@ -6,7 +7,7 @@ use lib.ListN.{getD, replicate}
 use lib.Ieee as Ieee
 use lib.Ieee.{Float, binary64, ofBits}
 use Rattle.flow.specs.Flow as flow
-use Rattle.flow.specs.Flow.{nothing, one, at, upto, zeros, numbers}
+use Rattle.flow.specs.Flow.{nothing, one, at, upto, zeros, numbers, dims}
 use Rattle.ieee.specs.Extremes.{least}
 use Rattle.flow.specs.declared.Bucket.{Bucket}
 use Rattle.wants.specs.Wants as wants
@@ -15,7 +16,6 @@ use Rattle.head.specs.declared.Shedder.{Shedder}
 use Rattle.head.specs.declared.Begin.{Begin}
 use Rattle.head.specs.declared.Starting.{Starting}
 use Rattle.head.specs.declared.Begin.the-variants as begin
-use Rattle.head.specs.Numbers.{dims, choose}
 use Rattle.head.specs.Questions.{start-asked}
 
 unfoldable pub buckets : List ℕ → List ℕ → List Bucket
@@ -62,4 +62,4 @@ start-ends b h g = record { answer = b; head = h; hist = g }
 -- THE START: no record is written; a refused one leaves the head that was
 unfoldable pub start : Shedder → ℕ → ℕ → ℕ → ℕ → Hist → List ℕ → List ℕ → Beginning
 start h tags units uses counted g rate ceiling =
-    choose (eqb (start-asked rate tags units uses counted) 0) (start-ends begin.Started (opening rate ceiling units counted) wants.cleared) (start-ends (begin.Refused (start-asked rate tags units uses counted)) h g)
+    cond (eqb (start-asked rate tags units uses counted) 0) (start-ends begin.Started (opening rate ceiling units counted) wants.cleared) (start-ends (begin.Refused (start-asked rate tags units uses counted)) h g)

@@ -1,10 +1,9 @@
 // The head of the Shedder: document 01's questions about it, and the start.
 ghost use mathlib.Core.Path.{_≡_};
-ghost use mathlib.Core.Bool.{_&&_};
+ghost use mathlib.Core.Bool.{_&&_, _||_};
 ghost use Prim.Native.Nat.{_<_};
 ghost use lib.ListN.{length};
 ghost use Rattle.wants.specs.Wants as wants;
-ghost use Rattle.head.specs.Numbers as numbers;
 ghost use Rattle.head.specs.Questions as asked;
 ghost use Rattle.head.specs.Answers as answers;
 ghost use Rattle.head.specs.Readings as readings;
@@ -137,7 +136,7 @@ fn both(a: bool, b: bool) -> bool
 }
 
 fn either(a: bool, b: bool) -> bool
-    ensures { λ r. ⌜ r ≡ numbers.or a b ⌝ }
+    ensures { λ r. ⌜ r ≡ (a || b) ⌝ }
 {
     if a { true } else { b }
 }

@@ -1,6 +1,6 @@
 -- Trims in 0.5 to 1 and levels of at least 1 are set at a start and stay so (specs/Ranges.antt). Assumes nothing.
 use mathlib.Core.Path.{_≡_, refl, sym, ap, _∙_, subst}
-use mathlib.Core.Bool.{Bool, true, false, cond, true≢false}
+use mathlib.Core.Bool.{Bool, true, false, cond, true≢false, _||_}
 use mathlib.Core.List.{List}
 use Prim.Native.Nat.{ℕ, _*_, _^_, _≤_, _<_, max}
 use native.Mathlib.Nat.{le-trans, le-of-eq, mul-le-mul-right}
@@ -17,7 +17,7 @@ use Rattle.ieee.proofs.Value.{one-is}
 use Rattle.ieee.proofs.Order.{le-is}
 use Rattle.ieee.proofs.Laws.{int-is}
 use Rattle.ieee.proofs.Extremes.{least-is}
-use Rattle.flow.specs.Flow.{nothing, one, at, upto, zeros, whole, numbers}
+use Rattle.flow.specs.Flow.{nothing, one, at, upto, zeros, whole, numbers, dims}
 use Rattle.flow.proofs.Parts.{upto-at, all-at}
 use Rattle.verdict.specs.Verdict.{is-admitted}
 use Rattle.verdict.specs.declared.Verdict.{Verdict}
@@ -28,7 +28,6 @@ use Rattle.store.specs.Store.{Rows, rows}
 use Rattle.wants.specs.Wants.{Hist}
 use Rattle.head.specs.declared.Shedder.{Shedder}
 use Rattle.head.specs.declared.Cause.{Cause}
-use Rattle.head.specs.Numbers.{dims, choose, or}
 use Rattle.head.specs.Questions.{is-rate, is-max, all-rates, is-unbounded, rates-whole, head-whole, start-asked, judge-asked, cut-asked}
 use Rattle.head.specs.Start.{first-levels, opening, start}
 use Rattle.head.proofs.Tests.{zero-yes}
@@ -64,7 +63,7 @@ each-rate : (rate : List ℕ) → rates-whole rate ≡ true → (d : ℕ) → d 
 unfolding is-unbounded all-rates
 each-rate rate e d small = go (is-unbounded rate) refl e
   where
-    go : (b : Bool) → is-unbounded rate ≡ b → or b (all-rates rate) ≡ true → Rate (getD rate d 0)
+    go : (b : Bool) → is-unbounded rate ≡ b → (b || all-rates rate) ≡ true → Rate (getD rate d 0)
     go true f e = of-max (getD rate d 0) (all-at (λ (d : ℕ). is-max (getD rate d 0)) dims d small f)
     go false f e = of-rate (getD rate d 0) (all-at (λ (d : ℕ). is-rate (getD rate d 0)) dims d small e)
 
@@ -137,7 +136,7 @@ told-in : (h : Shedder) (i : List ℕ) (k : List (List ℕ)) (n : Name) (v : Ver
 unfolding told
 told-in h i k n v cost p = go (is-admitted v)
   where
-    go : (b : Bool) → Held (choose b (tally h i k) (tallied (tally h i k) n (cause-of v) (getD cost 0 0)) .head)
+    go : (b : Bool) → Held (cond b (tally h i k) (tallied (tally h i k) n (cause-of v) (getD cost 0 0)) .head)
     go true = p
     go false = tallied-in h i k n (cause-of v) (getD cost 0 0) p
 
@@ -151,16 +150,16 @@ bounded-in h m u cost stamp p =
     let s = scanning (t .head) (rows (t .tags) (j .rows .units) (j .rows .uses)) (m .hist) in
     record { trims = scans.stays .trims s clock (q .0) (q .1 .trims); levels = scans.stays .levels s clock (q .1 .levels) }
 
-either-judged : (b : Bool) (x y : Judged) → InRange (x .head) → InRange (y .head) → InRange (choose b x y .head)
-either-judged true x y p q = p
-either-judged false x y p q = q
+cond-judged : (b : Bool) (x y : Judged) → InRange (x .head) → InRange (y .head) → InRange (cond b x y .head)
+cond-judged true x y p q = p
+cond-judged false x y p q = q
 
 judge-in : (h : Shedder) (m : Memory) (u : Unit) (cost : List ℕ) (stamp : ℕ) → head-whole h ≡ true → InRange h → InRange (judge h m u cost stamp .head)
 unfolding judge Held
 judge-in h m u cost stamp w p =
-    either-judged (eqb (judge-asked h (length (m .rows .tags)) (length (m .rows .units)) (length (m .rows .uses)) (length (m .counted)) cost stamp) 0) _ _
-    (either-judged (is-unbounded (h .flow .rate)) _ _ p
-    (either-judged (is-misplaced (m .rows .tags) (m .rows .units) (h .tracked) (name-of u)) _ _ p (bounded-in h m u cost stamp (rates-of h w, p)))) p
+    cond-judged (eqb (judge-asked h (length (m .rows .tags)) (length (m .rows .units)) (length (m .rows .uses)) (length (m .counted)) cost stamp) 0) _ _
+    (cond-judged (is-unbounded (h .flow .rate)) _ _ p
+    (cond-judged (is-misplaced (m .rows .tags) (m .rows .units) (h .tracked) (name-of u)) _ _ p (bounded-in h m u cost stamp (rates-of h w, p)))) p
 
 -- ---- a cut
 handed-in : (h : Shedder) (m : Rows) (u : Unit) (cost : List Float) → InRange h → InRange (handed-back (kept-by h m) u cost .head)
@@ -171,16 +170,16 @@ after-in : (s : KeptBy) (k : List (List ℕ)) (u : Unit) (c : Cause) (cost : Lis
 unfolding noted tallied added
 after-in s k u c cost p = record { trims = p .trims; levels = p .levels }
 
-either-cut : (b : Bool) (x y : Cut) → InRange (x .head) → InRange (y .head) → InRange (choose b x y .head)
-either-cut true x y p q = p
-either-cut false x y p q = q
+cond-cut : (b : Bool) (x y : Cut) → InRange (x .head) → InRange (y .head) → InRange (cond b x y .head)
+cond-cut true x y p q = p
+cond-cut false x y p q = q
 
 cut-in : (h : Shedder) (m : Rows) (k : List (List ℕ)) (u : Unit) (c : Cause) (cost : List ℕ) → InRange h → InRange (cut h m k u c cost .head)
 unfolding cut
 cut-in h m k u c cost p =
-    either-cut (eqb (cut-asked h (length (m .tags)) (length (m .units)) (length (m .uses)) (length k) cost) 0) _ _
-    (either-cut (hands-back (h .flow .rate) c) _ _
-    (either-cut (is-misplaced (m .tags) (m .units) (h .tracked) (name-of u)) _ _ p (after-in (handed-back (kept-by h m) u (numbers cost)) k u c cost (handed-in h m u (numbers cost) p)))
+    cond-cut (eqb (cut-asked h (length (m .tags)) (length (m .units)) (length (m .uses)) (length k) cost) 0) _ _
+    (cond-cut (hands-back (h .flow .rate) c) _ _
+    (cond-cut (is-misplaced (m .tags) (m .units) (h .tracked) (name-of u)) _ _ p (after-in (handed-back (kept-by h m) u (numbers cost)) k u c cost (handed-in h m u (numbers cost) p)))
     (after-in (kept-by h m) k u c cost p)) p
 
 pub ranges : Ranges

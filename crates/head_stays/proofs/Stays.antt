@@ -1,6 +1,6 @@
 -- A judgement and a cut leave the head whole. Assumes nothing.
 use mathlib.Core.Path.{_≡_, refl, sym, _∙_}
-use mathlib.Core.Bool.{Bool, true, false}
+use mathlib.Core.Bool.{Bool, true, false, cond}
 use mathlib.Core.List.{List, [], _∷_}
 use Prim.Native.Nat.{ℕ, _+_, _%_, _^_, _≤_, _<_, max}
 use native.Mathlib.Omega.{arith}
@@ -21,7 +21,6 @@ use Rattle.cut_sources.specs.Counted.{Sources, sources, counted-find, counted-u
 use Rattle.cut_sources.proofs.Pruning.{frees}
 use Rattle.head.specs.declared.Shedder.{Shedder}
 use Rattle.head.specs.declared.Cause.{Cause}
-use Rattle.head.specs.Numbers.{choose}
 use Rattle.head.specs.Questions.{is-unbounded, head-whole, judge-asked, cut-asked}
 use Rattle.head.specs.Readings.{index-of}
 use Rattle.head.proofs.Asked.{asked-ready}
@@ -35,16 +34,16 @@ use Rattle.head.proofs.Whole.{Whole, whole-of, whole-is}
 use Rattle.head_stays.proofs.Whole.{scanned-whole, start-whole, start-keeps, judge-memory, cut-memory, memory-counted}
 
 -- ---- the record
-choose-entered : (b : Bool) (x y : Entered) (n : ℕ) → (b ≡ true → x .place .tracked ≤ n) → y .place .tracked ≤ n → choose b x y .place .tracked ≤ n
-choose-entered true x y n p q = p refl
-choose-entered false x y n p q = q
+cond-entered : (b : Bool) (x y : Entered) (n : ℕ) → (b ≡ true → x .place .tracked ≤ n) → y .place .tracked ≤ n → cond b x y .place .tracked ≤ n
+cond-entered true x y n p q = p refl
+cond-entered false x y n p q = q
 
 entry-held : (m : Rows) (tracked room : ℕ) (u : Unit) (now : ℕ) → tracked ≤ room → entry m tracked room u now .place .tracked ≤ room
 unfolding entry
 entry-held m tracked room u now p =
-    choose-entered (is-overflow u) _ _ room (λ e. p)
-    (choose-entered (ltb (find (m .tags) (m .units) (name-of u) tracked) tracked) _ _ room (λ e. p)
-    (choose-entered (ltb tracked room) _ _ room (λ e. omega (arith, ltb-true tracked room e)) p))
+    cond-entered (is-overflow u) _ _ room (λ e. p)
+    (cond-entered (ltb (find (m .tags) (m .units) (name-of u) tracked) tracked) _ _ room (λ e. p)
+    (cond-entered (ltb tracked room) _ _ room (λ e. omega (arith, ltb-true tracked room e)) p))
 
 judged-whole : (h : Shedder) (m : Rows) (u : Unit) (cost : List Float) (now : ℕ) → Whole h → now < 9007199254740992 → Whole (judged h m u cost now .head)
 unfolding judged flowed
@@ -81,7 +80,7 @@ handed-whole h m u cost w = record {
 }
 
 -- ---- the counts: a row is left free
-sources-all : (b : Bool) (x y : Sources) (P : Sources → Type 0) → (b ≡ true → P x) → (b ≡ false → P y) → P (counts.choose b x y)
+sources-all : (b : Bool) (x y : Sources) (P : Sources → Type 0) → (b ≡ true → P x) → (b ≡ false → P y) → P (cond b x y)
 sources-all true x y P p q = p refl
 sources-all false x y P p q = q refl
 
@@ -129,13 +128,13 @@ tallied-whole h i k n cause receptions w e = record {
       (count-length (source-tags (tally h i k)) k (h .counted) n cause ∙ e) (w .counted-least);
 }
 
-choose-tally : (b : Bool) (x y : Tally) → Whole (x .head) → Whole (y .head) → Whole (choose b x y .head)
-choose-tally true x y p q = p
-choose-tally false x y p q = q
+cond-tally : (b : Bool) (x y : Tally) → Whole (x .head) → Whole (y .head) → Whole (cond b x y .head)
+cond-tally true x y p q = p
+cond-tally false x y p q = q
 
 told-whole : (h : Shedder) (i : List ℕ) (k : List (List ℕ)) (n : Name) (v : Verdict) (cost : List ℕ) → Whole h → length k ≡ h .«counted_room» → Whole (told (tally h i k) n v cost .head)
 unfolding told
-told-whole h i k n v cost w e = choose-tally (is-admitted v) (tally h i k) (tallied (tally h i k) n (cause-of v) (getD cost 0 0)) w (tallied-whole h i k n (cause-of v) (getD cost 0 0) w e)
+told-whole h i k n v cost w e = cond-tally (is-admitted v) (tally h i k) (tallied (tally h i k) n (cause-of v) (getD cost 0 0)) w (tallied-whole h i k n (cause-of v) (getD cost 0 0) w e)
 
 -- ---- a judgement
 judged-room : (h : Shedder) (m : Rows) (u : Unit) (cost : List Float) (now : ℕ) → judged h m u cost now .head .«counted_room» ≡ h .«counted_room»
@@ -155,18 +154,18 @@ bounded-whole h m u cost stamp w p e =
     scanned-whole (scanning (t .head) (rows (t .tags) (j .rows .units) (j .rows .uses)) (m .hist)) clock
     (told-whole (j .head) (j .rows .tags) (m .counted) (name-of u) (j .verdict) cost (judged-whole h (m .rows) u (numbers cost) clock w held) (e ∙ sym (judged-room h (m .rows) u (numbers cost) clock))) held
 
-choose-judged : (b : Bool) (x y : Judged) → (b ≡ true → head-whole (x .head) ≡ true) → head-whole (y .head) ≡ true → head-whole (choose b x y .head) ≡ true
-choose-judged true x y p q = p refl
-choose-judged false x y p q = q
+cond-judged : (b : Bool) (x y : Judged) → (b ≡ true → head-whole (x .head) ≡ true) → head-whole (y .head) ≡ true → head-whole (cond b x y .head) ≡ true
+cond-judged true x y p q = p refl
+cond-judged false x y p q = q
 
 judge-keeps : (h : Shedder) (m : Memory) (u : Unit) (cost : List ℕ) (stamp : ℕ) → head-whole h ≡ true → head-whole (judge h m u cost stamp .head) ≡ true
 unfolding judge
 judge-keeps h m u cost stamp w =
     let a = judge-asked h (length (m .rows .tags)) (length (m .rows .units)) (length (m .rows .uses)) (length (m .counted)) cost stamp in
-    choose-judged (eqb a 0) _ _ (λ e.
+    cond-judged (eqb a 0) _ _ (λ e.
     let r = asked-ready h (length (m .rows .tags)) (length (m .rows .units)) (length (m .rows .uses)) (length (m .counted)) cost stamp (eqb-true a 0 e) in
-    choose-judged (is-unbounded (h .flow .rate)) _ _ (λ y. w)
-    (choose-judged (is-misplaced (m .rows .tags) (m .rows .units) (h .tracked) (name-of u)) _ _ (λ y. w)
+    cond-judged (is-unbounded (h .flow .rate)) _ _ (λ y. w)
+    (cond-judged (is-misplaced (m .rows .tags) (m .rows .units) (h .tracked) (name-of u)) _ _ (λ y. w)
     (whole-is (bounded h m u cost stamp .head) (bounded-whole h m u cost stamp (whole-of h w) (r .stamp-held)
     (memory-counted h (length (m .rows .tags)) (length (m .rows .units)) (length (m .rows .uses)) (length (m .counted)) (judge-memory h _ _ _ _ cost stamp (eqb-true a 0 e))))))) w
 
@@ -179,18 +178,18 @@ handed-room : (h : Shedder) (m : Rows) (u : Unit) (cost : List Float) → handed
 unfolding handed-back
 handed-room h m u cost = refl
 
-choose-cut : (b : Bool) (x y : Cut) → (b ≡ true → head-whole (x .head) ≡ true) → head-whole (y .head) ≡ true → head-whole (choose b x y .head) ≡ true
-choose-cut true x y p q = p refl
-choose-cut false x y p q = q
+cond-cut : (b : Bool) (x y : Cut) → (b ≡ true → head-whole (x .head) ≡ true) → head-whole (y .head) ≡ true → head-whole (cond b x y .head) ≡ true
+cond-cut true x y p q = p refl
+cond-cut false x y p q = q
 
 cut-keeps : (h : Shedder) (m : Rows) (k : List (List ℕ)) (u : Unit) (c : Cause) (cost : List ℕ) → head-whole h ≡ true → head-whole (cut h m k u c cost .head) ≡ true
 unfolding cut
 cut-keeps h m k u c cost w =
     let a = cut-asked h (length (m .tags)) (length (m .units)) (length (m .uses)) (length k) cost in
-    choose-cut (eqb a 0) _ _ (λ e.
+    cond-cut (eqb a 0) _ _ (λ e.
     let room : length k ≡ h .«counted_room» = memory-counted h (length (m .tags)) (length (m .units)) (length (m .uses)) (length k) (cut-memory h _ _ _ _ cost (eqb-true a 0 e)) in
-    choose-cut (hands-back (h .flow .rate) c) _ _ (λ y.
-    choose-cut (is-misplaced (m .tags) (m .units) (h .tracked) (name-of u)) _ _ (λ z. w)
+    cond-cut (hands-back (h .flow .rate) c) _ _ (λ y.
+    cond-cut (is-misplaced (m .tags) (m .units) (h .tracked) (name-of u)) _ _ (λ z. w)
     (after-whole (handed-back (kept-by h m) u (numbers cost)) k u c cost (handed-whole h m u (numbers cost) (whole-of h w)) (room ∙ sym (handed-room h m u (numbers cost)))))
     (after-whole (kept-by h m) k u c cost (whole-of h w) room)) w
 

@@ -1,17 +1,16 @@
 -- A start and a scan leave the head whole. Assumes nothing.
 use mathlib.Core.Path.{_≡_, refl}
-use mathlib.Core.Bool.{Bool, true, false, _&&_}
+use mathlib.Core.Bool.{Bool, true, false, _&&_, cond}
 use mathlib.Core.List.{List}
 use Prim.Native.Nat.{ℕ, zero, suc, _+_, _-_, _≤_, _<_}
 use native.Mathlib.Omega.{arith}
 use lib.Dec.{eqb, leb, ltb}
 use borrow.Author.Tests.{eqb-true, eq-eqb, leb-true}
 use Rattle.store.specs.Store.{Rows}
-use Rattle.store_retain.specs.Retain.{Kept, kept, either, is-stale, freed, moved, retain-one, retained}
+use Rattle.store_retain.specs.Retain.{Kept, kept, is-stale, freed, moved, retain-one, retained}
 use Rattle.wants.specs.Wants.{Hist}
 use Rattle.wants.specs.Wants as wants
 use Rattle.head.specs.declared.Shedder.{Shedder}
-use Rattle.head.specs.Numbers.{choose}
 use Rattle.head.specs.Questions.{rates-whole, is-stamp, tables-whole, rooms-whole, stamps-whole, head-whole, tags-whole, memory-whole, sizes-whole, start-asked, judge-asked, cut-asked}
 use Rattle.head.proofs.Tests.{zero-yes, yes-yes, both}
 use Rattle.head.proofs.Whole.{Whole, tables-is, tables-sum}
@@ -50,7 +49,7 @@ opening-whole rate ceiling tags units uses counted e =
     let f = yes-yes (eqb uses units) _ (d .1) in
     both (rates-whole rate && true) (true && rooms-whole units counted 0 0) (both (rates-whole rate) true (a .0) refl) (f .1)
 
-start-case : (b : Bool) (x y : Beginning) → (b ≡ true → head-whole (x .head) ≡ true) → head-whole (y .head) ≡ true → head-whole (choose b x y .head) ≡ true
+start-case : (b : Bool) (x y : Beginning) → (b ≡ true → head-whole (x .head) ≡ true) → head-whole (y .head) ≡ true → head-whole (cond b x y .head) ≡ true
 start-case true x y p q = p refl
 start-case false x y p q = q
 
@@ -64,15 +63,15 @@ start-keeps h tags units uses counted g rate ceiling w =
     start-case (eqb (start-asked rate tags units uses counted) 0) _ _ (λ e. opening-whole rate ceiling tags units uses counted (eqb-true (start-asked rate tags units uses counted) 0 e)) w
 
 -- ---- of n records n at most are kept
-either-held : (b : Bool) (x y : Kept) (n : ℕ) → x .count ≤ n → y .count ≤ n → either b x y .count ≤ n
-either-held true x y n p q = p
-either-held false x y n p q = q
+cond-held : (b : Bool) (x y : Kept) (n : ℕ) → x .count ≤ n → y .count ≤ n → cond b x y .count ≤ n
+cond-held true x y n p q = p
+cond-held false x y n p q = q
 
 retain-one-held : (k : Kept) (table now i n : ℕ) → k .count ≤ n → retain-one k table now i .count ≤ suc n
 unfolding retain-one
 retain-one-held k table now i n p =
-    either-held (is-stale (k .rows .tags) (k .rows .units) table now i) (kept (k .count) (freed (k .rows) i)) _ (suc n) (omega (arith, p))
-    (either-held (ltb (k .count) i) (kept (k .count + 1) (moved (k .rows) i (k .count))) (kept (k .count + 1) (k .rows)) (suc n) (omega (arith, p)) (omega (arith, p)))
+    cond-held (is-stale (k .rows .tags) (k .rows .units) table now i) (kept (k .count) (freed (k .rows) i)) _ (suc n) (omega (arith, p))
+    (cond-held (ltb (k .count) i) (kept (k .count + 1) (moved (k .rows) i (k .count))) (kept (k .count + 1) (k .rows)) (suc n) (omega (arith, p)) (omega (arith, p)))
 
 pub retained-held : (m : Rows) (table now n : ℕ) → retained m table now n .count ≤ n
 unfolding retained
@@ -80,9 +79,9 @@ retained-held m table now zero = omega arith
 retained-held m table now (suc n) = retain-one-held (retained m table now n) table now n n (retained-held m table now n)
 
 -- ---- the steps of a scan
-choose-whole : (b : Bool) (x y : Shedder) → (b ≡ true → Whole x) → Whole y → Whole (choose b x y)
-choose-whole true x y p q = p refl
-choose-whole false x y p q = q
+cond-whole : (b : Bool) (x y : Shedder) → (b ≡ true → Whole x) → Whole y → Whole (cond b x y)
+cond-whole true x y p q = p refl
+cond-whole false x y p q = q
 
 visited-whole : (h : Shedder) (n : ℕ) → Whole h → 1 ≤ h .scan .remaining → n ≤ h .tracked → Whole (visited h n)
 unfolding visited
@@ -107,13 +106,13 @@ visit-whole : (s : Scanning) → Whole (s .head) → 1 ≤ s .head .scan .remain
 unfolding visit
 visit-whole s w p = visited-whole (s .head) _ w p (retained-held (s .rows) (s .head .scan .next) (s .head .scan .«at_ms») (s .head .tracked))
 
-choose-scanning : (b : Bool) (x y : Scanning) → (b ≡ true → Whole (x .head)) → Whole (y .head) → Whole (choose b x y .head)
-choose-scanning true x y p q = p refl
-choose-scanning false x y p q = q
+cond-scanning : (b : Bool) (x y : Scanning) → (b ≡ true → Whole (x .head)) → Whole (y .head) → Whole (cond b x y .head)
+cond-scanning true x y p q = p refl
+cond-scanning false x y p q = q
 
 again-whole : (s : Scanning) → Whole (s .head) → Whole (again s .head)
 unfolding again
-again-whole s w = choose-scanning (leb 1 (s .head .scan .remaining)) (visit s) s (λ e. visit-whole s w (leb-true 1 (s .head .scan .remaining) e)) w
+again-whole s w = cond-scanning (leb 1 (s .head .scan .remaining)) (visit s) s (λ e. visit-whole s w (leb-true 1 (s .head .scan .remaining) e)) w
 
 trimmed-whole : (h : Shedder) (g : Hist) → Whole h → Whole (trimmed h g)
 unfolding trimmed
@@ -134,7 +133,7 @@ trimmed-whole h g w = record {
 
 ended-whole : (h : Shedder) (g : Hist) → Whole h → Whole (ended h g)
 unfolding ended
-ended-whole h g w = choose-whole (eqb (h .scan .remaining) 0) (trimmed h g) h (λ e. trimmed-whole h g w) w
+ended-whole h g w = cond-whole (eqb (h .scan .remaining) 0) (trimmed h g) h (λ e. trimmed-whole h g w) w
 
 opened-whole : (h : Shedder) (clock : ℕ) → Whole h → clock < 9007199254740992 → Whole (opened h clock)
 unfolding opened
@@ -153,19 +152,19 @@ opened-whole h clock w p = record {
   counted-held = w .counted-held;
 }
 
-choose-started : (b : Bool) (x y : Started) → Whole (x .head) → Whole (y .head) → Whole (choose b x y .head)
-choose-started true x y p q = p
-choose-started false x y p q = q
+cond-started : (b : Bool) (x y : Started) → Whole (x .head) → Whole (y .head) → Whole (cond b x y .head)
+cond-started true x y p q = p
+cond-started false x y p q = q
 
 begun-whole : (h : Shedder) (g : Hist) (clock : ℕ) → Whole h → clock < 9007199254740992 → Whole (begun h g clock .head)
 unfolding begun
 begun-whole h g clock w p =
-    choose-started (leb 1 (h .scan .remaining)) (started h g) _ w
-    (choose-started (ltb clock (h .scan .«began_ms» + 500)) (started h g) (started (opened h clock) wants.cleared) w (opened-whole h clock w p))
+    cond-started (leb 1 (h .scan .remaining)) (started h g) _ w
+    (cond-started (ltb clock (h .scan .«began_ms» + 500)) (started h g) (started (opened h clock) wants.cleared) w (opened-whole h clock w p))
 
-scanned-case : (m : Rows) (b : Started) → Whole (b .head) → Whole (choose (leb 1 (b .head .scan .remaining)) (scanning (ended (again (visit (scanning (b .head) m (b .hist))) .head) (again (visit (scanning (b .head) m (b .hist))) .hist)) (again (visit (scanning (b .head) m (b .hist))) .rows) (again (visit (scanning (b .head) m (b .hist))) .hist)) (scanning (b .head) m (b .hist)) .head)
+scanned-case : (m : Rows) (b : Started) → Whole (b .head) → Whole (cond (leb 1 (b .head .scan .remaining)) (scanning (ended (again (visit (scanning (b .head) m (b .hist))) .head) (again (visit (scanning (b .head) m (b .hist))) .hist)) (again (visit (scanning (b .head) m (b .hist))) .rows) (again (visit (scanning (b .head) m (b .hist))) .hist)) (scanning (b .head) m (b .hist)) .head)
 scanned-case m b w =
-    choose-scanning (leb 1 (b .head .scan .remaining)) _ (scanning (b .head) m (b .hist))
+    cond-scanning (leb 1 (b .head .scan .remaining)) _ (scanning (b .head) m (b .hist))
     (λ e. ended-whole (again (visit (scanning (b .head) m (b .hist))) .head) _ (again-whole (visit (scanning (b .head) m (b .hist))) (visit-whole (scanning (b .head) m (b .hist)) w (leb-true 1 (b .head .scan .remaining) e)))) w
 
 pub scanned-whole : (s : Scanning) (clock : ℕ) → Whole (s .head) → clock < 9007199254740992 → Whole (scanned s clock .head)

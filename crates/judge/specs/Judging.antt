@@ -8,7 +8,7 @@ use lib.Ieee as Ieee
 use lib.Ieee.{Float, binary64}
 use Rattle.flow.specs.Flow as flow
 use Rattle.verdict.specs.Verdict as verdicts
-use Rattle.flow.specs.Flow.{at, upto, zeros}
+use Rattle.flow.specs.Flow.{at, upto, zeros, dims}
 use Rattle.verdict.specs.Verdict.{is-admitted}
 use Rattle.flow.specs.declared.Use.{Use}
 use Rattle.verdict.specs.declared.Outcome.{Outcome}
@@ -25,7 +25,6 @@ use Rattle.head.specs.declared.Answer.{Answer}
 use Rattle.head.specs.declared.Answer.the-variants as answer
 use Rattle.judge.specs.declared.Passed.{Passed}
 use Rattle.judge.specs.declared.Judgement.{Judgement}
-use Rattle.head.specs.Numbers.{dims, choose}
 use Rattle.head.specs.Questions.{is-unbounded, judge-asked}
 use Rattle.scan.specs.Scanning.{Scanning, scanning, scanned}
 use Rattle.store_entry.specs.Entering.{is-misplaced, Entered, entry, used-at, Back, put-back, headed}
@@ -45,7 +44,7 @@ outcome f level u rank cost now = verdicts.judged (f .buckets) u now (now - f .�
 
 -- only an admission adds to it
 unfoldable pub admitted-then : Verdict → List Float → List Float → List Float
-admitted-then v admitted cost = choose (is-admitted v) (raised admitted cost) admitted
+admitted-then v admitted cost = cond (is-admitted v) (raised admitted cost) admitted
 
 -- the flow after a judgement: clock and buckets have moved, also where the batch is cut
 unfoldable pub flowed : Flow → Outcome → List Float → ℕ → Flow
@@ -127,7 +126,7 @@ bounded h m u cost stamp = bounded-passed m u cost (max stamp (h .flow .«at_ms�
 -- THE JUDGEMENT: the first question answered no gives its number and nothing changes; an unbounded relay admits, nothing changes, and 9 is not asked, since no record is sought
 unfoldable pub judge : Shedder → Memory → unit.Unit → List ℕ → ℕ → Judged
 judge h m u cost stamp =
-    choose (eqb (judge-asked h (length (m .rows .tags)) (length (m .rows .units)) (length (m .rows .uses)) (length (m .counted)) cost stamp) 0)
-    (choose (is-unbounded (h .flow .rate)) (judge-ends answer.Admitted h m)
-    (choose (is-misplaced (m .rows .tags) (m .rows .units) (h .tracked) (sender.name-of u)) (judge-ends (answer.Refused 9) h m) (bounded h m u cost stamp)))
+    cond (eqb (judge-asked h (length (m .rows .tags)) (length (m .rows .units)) (length (m .rows .uses)) (length (m .counted)) cost stamp) 0)
+    (cond (is-unbounded (h .flow .rate)) (judge-ends answer.Admitted h m)
+    (cond (is-misplaced (m .rows .tags) (m .rows .units) (h .tracked) (sender.name-of u)) (judge-ends (answer.Refused 9) h m) (bounded h m u cost stamp)))
     (judge-ends (answer.Refused (judge-asked h (length (m .rows .tags)) (length (m .rows .units)) (length (m .rows .uses)) (length (m .counted)) cost stamp)) h m)

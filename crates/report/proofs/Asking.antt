@@ -19,7 +19,7 @@ use Rattle.head.specs.declared.Written.{Written}
 use Rattle.head.specs.declared.Written.the-variants.{Bytes, Refused}
 use Rattle.report_lines.specs.Lines.{text}
 use Rattle.head.specs.Answers.{written-number}
-use Rattle.report.specs.Report.{bytes, report-asked, choose, answer, front, Ends, ends, report}
+use Rattle.report.specs.Report.{bytes, report-asked, answer, front, Ends, ends, report}
 
 -- what questions 3 and 4 show: the sources counted are rows of the memory lent
 pub counted-held : (h : Shedder) (i u s k : ℕ) → head-whole h ≡ true → memory-whole h i u s k ≡ true → h .counted ≤ k
@@ -41,16 +41,16 @@ fits-of true true x room h = third (leb x room) refl h
 fits-of true false x room h = absurd (omega arith)
 fits-of false b x room h = absurd (omega arith)
 
-number-of : (a n : ℕ) (t : Bool) → eqb a 0 ≡ t → written-number (choose t (Bytes n) (Refused a)) ≡ a
+number-of : (a n : ℕ) (t : Bool) → eqb a 0 ≡ t → written-number (cond t (Bytes n) (Refused a)) ≡ a
 number-of a n true e = sym (eqb-true a 0 e)
 number-of a n false e = refl
 
-bytes-of : (t : Bool) (a : ℕ) (x : List ℕ) → bytes (choose t (Bytes (length x)) (Refused a)) ≡ length (choose t x [])
+bytes-of : (t : Bool) (a : ℕ) (x : List ℕ) → bytes (cond t (Bytes (length x)) (Refused a)) ≡ length (cond t x [])
 bytes-of true a x = refl
 bytes-of false a x = refl
 
 ends-of : (t : Bool) (a b : Written) (x out : List ℕ)
-    → choose t (ends a (x ++ drop (length x) out)) (ends b out) ≡ ends (choose t a b) (choose t x [] ++ drop (length (choose t x [])) out)
+    → cond t (ends a (x ++ drop (length x) out)) (ends b out) ≡ ends (cond t a b) (cond t x [] ++ drop (length (cond t x [])) out)
 ends-of true a b x out = refl
 ends-of false a b x out = refl
 
@@ -98,7 +98,7 @@ module _ (h : Shedder) (tags units uses : ℕ) (rows : List (List ℕ)) where
     unfolding front report-asked
     front-fits = by (eqb (report-asked h tags units uses rows room) 0) refl
       where
-        by : (t : Bool) → eqb (report-asked h tags units uses rows room) 0 ≡ t → length (choose t (text h rows) []) ≤ room
+        by : (t : Bool) → eqb (report-asked h tags units uses rows room) 0 ≡ t → length (cond t (text h rows) []) ≤ room
         by true e = fits-of (head-whole h) (memory-whole h tags units uses (length rows)) (length (text h rows)) room (eqb-true (report-asked h tags units uses rows room) 0 e)
         by false e = omega arith
 

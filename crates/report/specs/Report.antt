@@ -22,17 +22,13 @@ report-asked h tags units uses rows room =
     cond (head-whole h) (cond (memory-whole h tags units uses (length rows)) (cond (leb (length (text h rows)) room) 0 7) 4) 3
 
 -- ---- the answer and the buffer
-abbrev pub choose : {A : Type 0} → Bool → A → A → A
-choose true a b = a
-choose false a b = b
-
 unfoldable pub answer : Shedder → ℕ → ℕ → ℕ → List (List ℕ) → ℕ → Written
 answer h tags units uses rows room =
-    choose (eqb (report-asked h tags units uses rows room) 0) (Bytes (length (text h rows))) (Refused (report-asked h tags units uses rows room))
+    cond (eqb (report-asked h tags units uses rows room) 0) (Bytes (length (text h rows))) (Refused (report-asked h tags units uses rows room))
 
 -- the written front part: the whole text, or nothing where a question was answered no
 unfoldable pub front : Shedder → ℕ → ℕ → ℕ → List (List ℕ) → ℕ → List ℕ
-front h tags units uses rows room = choose (eqb (report-asked h tags units uses rows room) 0) (text h rows) []
+front h tags units uses rows room = cond (eqb (report-asked h tags units uses rows room) 0) (text h rows) []
 
 pub record Ends : Type 0 where
   pub answer : Written
@@ -44,6 +40,6 @@ ends answer out = record { answer = answer; out = out }
 -- THE REPORT: the text at the front of the buffer, the bytes behind it as they were; a refused one leaves the whole buffer as it was
 unfoldable pub report : Shedder → ℕ → ℕ → ℕ → List (List ℕ) → List ℕ → Ends
 report h tags units uses rows out =
-    choose (eqb (report-asked h tags units uses rows (length out)) 0)
+    cond (eqb (report-asked h tags units uses rows (length out)) 0)
     (ends (Bytes (length (text h rows))) (text h rows ++ drop (length (text h rows)) out))
     (ends (Refused (report-asked h tags units uses rows (length out))) out)

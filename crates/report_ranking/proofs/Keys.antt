@@ -16,7 +16,7 @@ use Rattle.sender.specs.declared.PublicKey.{PublicKey}
 use Rattle.sender.specs.declared.Group.the-variants.{V4, V6}
 use Rattle.sender.specs.declared.Unit.{Unit}
 use Rattle.sender.specs.declared.Unit.the-variants.{Group as Grouped, NoAddress, Overflow}
-use Rattle.sender.specs.Sender.{unit-of, pick}
+use Rattle.sender.specs.Sender.{unit-of}
 use Rattle.label.specs.Label.{label, key-label, v4-label, v6-label}
 use Rattle.store.specs.Store.{words-at}
 use Rattle.report_ranking.specs.Sources.{unit-at, label-at}
@@ -90,7 +90,7 @@ data Other : Unit → Type 0 where
   no-address : Other NoAddress
   overflow : Other Overflow
 
-other : (t u v w z : Bool) (n : ℕ) → Other (pick t (pick u (Grouped (V4 n)) Overflow) (pick v (pick w (Grouped (V6 n)) Overflow) (pick z NoAddress Overflow)))
+other : (t u v w z : Bool) (n : ℕ) → Other (cond t (cond u (Grouped (V4 n)) Overflow) (cond v (cond w (Grouped (V6 n)) Overflow) (cond z NoAddress Overflow)))
 other true true v w z n = v4
 other true false v w z n = overflow
 other false u true true z n = v6

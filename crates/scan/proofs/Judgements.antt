@@ -1,6 +1,6 @@
 -- The judgements of a scan: two tables each, the level with the 32nd (specs/Laws.antt). Assumes nothing.
 use mathlib.Core.Path.{_≡_, refl, sym, ap, _∙_, subst}
-use mathlib.Core.Bool.{Bool, true, false}
+use mathlib.Core.Bool.{Bool, true, false, cond}
 use Prim.Native.Nat.{ℕ, suc, _+_, _-_, _*_, _%_, _^_, _<_, _≤_}
 use native.Mathlib.Nat.{mod-add-mod}
 use native.Mathlib.Omega.{arith}
@@ -8,7 +8,6 @@ use lib.Dec.{eqb, leb}
 use borrow.Author.Tests.{le-leb, lt-leb, le-ltb, lt-ltb, eq-eqb, ne-eqb}
 use Rattle.wants.specs.Wants.{Hist, cleared}
 use Rattle.head.specs.declared.Shedder.{Shedder}
-use Rattle.head.specs.Numbers.{choose}
 use Rattle.scan_trim.specs.Trimming.{trimmed}
 use Rattle.scan.specs.Walking.{walk-overflow}
 use Rattle.scan.specs.Scanning.{Scanning, scanning, visited, visit, again, ended, ended-at, opened, begun, scanned, is-idle}
@@ -16,13 +15,13 @@ use Rattle.scan.specs.Laws.{Judgement, begins, goes-on, held, sweep, beg
 use Rattle.scan.proofs.Scanning.{scanned-idle}
 
 -- ---- a choice by a test of numbers
-tested : {A : Type 0} (m n : ℕ) (a b : A) → m ≤ n → choose (leb m n) a b ≡ a
+tested : {A : Type 0} (m n : ℕ) (a b : A) → m ≤ n → cond (leb m n) a b ≡ a
 tested m n a b l = simp (le-leb m n l)
 
-equals : {A : Type 0} (m n : ℕ) (a b : A) → m ≡ n → choose (eqb m n) a b ≡ a
+equals : {A : Type 0} (m n : ℕ) (a b : A) → m ≡ n → cond (eqb m n) a b ≡ a
 equals m n a b e = simp (eq-eqb m n e)
 
-differs : {A : Type 0} (m n : ℕ) (a b : A) → (m ≡ n → ⊥) → choose (eqb m n) a b ≡ b
+differs : {A : Type 0} (m n : ℕ) (a b : A) → (m ≡ n → ⊥) → cond (eqb m n) a b ≡ b
 differs m n a b e = simp (ne-eqb m n e)
 
 -- ---- the two visits of a judgement
@@ -60,7 +59,7 @@ module _ (h : Shedder) (g : Hist) where
   unfolding ended
   ended-by P p q = go (eqb (h .scan .remaining) _)
     where
-      go : (b : Bool) → P (choose b (trimmed h g) h)
+      go : (b : Bool) → P (cond b (trimmed h g) h)
       go true = p
       go false = q
 

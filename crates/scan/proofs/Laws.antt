@@ -1,11 +1,10 @@
 -- The laws of a scan (specs/Laws.antt). Assumes nothing.
-use mathlib.Core.Bool.{Bool, true, false}
+use mathlib.Core.Bool.{Bool, true, false, cond}
 use Prim.Native.Nat.{ℕ, _+_}
 use lib.Dec.{leb, ltb}
 use Rattle.store_retain.specs.Retain.{retained}
 use Rattle.wants.specs.Wants.{Hist, cleared}
 use Rattle.head.specs.declared.Shedder.{Shedder}
-use Rattle.head.specs.Numbers.{choose}
 use Rattle.scan_trim.specs.Trimming.{trimmed}
 use Rattle.scan_trim.specs.Laws.{Rates, Trims, Levels}
 use Rattle.scan_trim.proofs.Laws.{trim-law, level-law}
@@ -23,7 +22,7 @@ module _ (P : Shedder → Type 0) (at-visit : (h : Shedder) (n : ℕ) → P h �
   unfolding again
   again-keeps s p = go (leb _ (s .head .scan .remaining))
     where
-      go : (b : Bool) → P (choose b (visit s) s .head)
+      go : (b : Bool) → P (cond b (visit s) s .head)
       go true = visit-keeps s p
       go false = p
 
@@ -31,7 +30,7 @@ module _ (P : Shedder → Type 0) (at-visit : (h : Shedder) (n : ℕ) → P h �
   unfolding begun
   begun-keeps h g t p = go (leb 1 (h .scan .remaining)) (ltb t (h .scan .«began_ms» + 500))
     where
-      go : (b c : Bool) → P (choose b (started h g) (choose c (started h g) (started (opened h t) cleared)) .head)
+      go : (b c : Bool) → P (cond b (started h g) (cond c (started h g) (started (opened h t) cleared)) .head)
       go true c = p
       go false true = p
       go false false = at-begin h t p
@@ -40,7 +39,7 @@ module _ (P : Shedder → Type 0) (at-visit : (h : Shedder) (n : ℕ) → P h �
   unfolding scanned
   keeps s clock p = go (begun (s .head) (s .hist) clock) (begun-keeps (s .head) (s .hist) clock p)
     where
-      by : (b : Scanning) → P (b .head) → (c : Bool) → P (choose c (ended-at (again (visit b))) b .head)
+      by : (b : Scanning) → P (b .head) → (c : Bool) → P (cond c (ended-at (again (visit b))) b .head)
       by b q true = ended-by (again (visit b) .head) (again (visit b) .hist) P (at-end _ _ r) r
         where
           r : P (again (visit b) .head)

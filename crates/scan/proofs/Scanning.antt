@@ -12,7 +12,6 @@ use Rattle.scan.proofs.Turns.{walk-same}
 use Rattle.wants.specs.Wants.{Hist, cleared}
 use Rattle.head.specs.declared.Shedder.{Shedder}
 use Rattle.scan.specs.Scanning.{scanning, visited, visit, visit-with, again, ended, ended-at, opened, started, is-idle, begun, scanned, scanned-from}
-use Rattle.head.specs.Numbers.{choose}
 use Rattle.scan.specs.Walking.{walk, walk-overflow}
 
 pub moved-on : (r n : ℕ) → 1 ≤ r → r + n ≤ 64 → r - 1 + (n + 1) ≤ 64
@@ -47,7 +46,7 @@ module _ (h : Shedder) (m : Rows) (g : Hist) where
   unfolding scanned
   scanned-on clock b g1 v m1 g2 w m2 g3 r eB t eV eW eR =
       ap (λ (r : Shedder). scanning r m2 g3) eR ∙ ap ended-at (eW ∙ ap again eV)
-      ∙ ap (λ (x : Bool). choose x (ended-at (again (visit (scanning b m g1)))) (scanning b m g1)) (sym t)
+      ∙ ap (λ (x : Bool). cond x (ended-at (again (visit (scanning b m g1)))) (scanning b m g1)) (sym t)
       ∙ ap (scanned-from m) eB
 
   pub scanned-off : (clock : ℕ) (b : Shedder) (g1 : Hist)
@@ -55,14 +54,14 @@ module _ (h : Shedder) (m : Rows) (g : Hist) where
       → scanning b m g1 ≡ scanned (scanning h m g) clock
   unfolding scanned
   scanned-off clock b g1 eB t =
-      ap (λ (x : Bool). choose x (ended-at (again (visit (scanning b m g1)))) (scanning b m g1)) (sym t) ∙ ap (scanned-from m) eB
+      ap (λ (x : Bool). cond x (ended-at (again (visit (scanning b m g1)))) (scanning b m g1)) (sym t) ∙ ap (scanned-from m) eB
 
   -- where it is idle all stays
   idle : (clock : ℕ) → is-idle h clock ≡ true → (leb 1 (h .scan .remaining) ≡ false) × (started h g ≡ begun h g clock)
   unfolding is-idle begun
   idle clock e = go (leb 1 (h .scan .remaining)) (ltb clock (h .scan .«began_ms» + 500)) e
     where
-      go : (b c : Bool) → cond b false c ≡ true → (b ≡ false) × (started h g ≡ choose b (started h g) (choose c (started h g) (started (opened h clock) cleared)))
+      go : (b c : Bool) → cond b false c ≡ true → (b ≡ false) × (started h g ≡ cond b (started h g) (cond c (started h g) (started (opened h clock) cleared)))
       go true c e = absurd (true≢false (sym e))
       go false true e = (refl, refl)
       go false false e = absurd (true≢false (sym e))

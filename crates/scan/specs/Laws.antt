@@ -1,5 +1,6 @@
 -- Document 01 on a scan: it ends with its 32nd judgement, and no judgement leaves a trim or a level outside. Laws on the definitions. Statements only; proofs/Laws.antt proves them.
 -- They refuse a definition that visits other tables, or sets the level at another judgement, whatever the code does. crate `trim` has the laws of the trim and of the level stored.
+use mathlib.Core.Bool.{cond}
 use mathlib.Core.Path.{_≡_}
 use Prim.Native.Nat.{ℕ, zero, suc, _+_, _*_, _%_, _^_, _≤_, _<_}
 use lib.Dec.{eqb}
@@ -10,7 +11,6 @@ use Rattle.store.specs.Store.{Rows}
 use Rattle.wants.specs.Wants.{Hist, cleared}
 use Rattle.head.specs.declared.Scan.{Scan}
 use Rattle.head.specs.declared.Shedder.{Shedder}
-use Rattle.head.specs.Numbers.{choose}
 use Rattle.scan.specs.Walking.{walk-use, walk}
 use Rattle.scan_trim.specs.Trimming.{levels, opens, trims-at}
 use Rattle.scan_trim.specs.Laws.{Rates, Trims, Levels}
@@ -40,7 +40,7 @@ held h m g = record { rows = m; tracked = h .tracked; hist = g }
 
 -- overflow's want: at table 0, once it has been judged
 abbrev pub overflow-first : Use → ℕ → ℕ → Hist → Hist
-overflow-first overflow t table g = choose (eqb table 0) (choose (is-fresh (overflow .fresh)) g (walk-use overflow t g)) g
+overflow-first overflow t table g = cond (eqb table 0) (cond (is-fresh (overflow .fresh)) g (walk-use overflow t g)) g
 
 -- a table visited at the scan's stamp t: overflow's want first, then the stale are dropped, then the wants of those kept
 abbrev pub sweep : Use → ℕ → ℕ → Swept → Swept

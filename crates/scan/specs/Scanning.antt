@@ -7,7 +7,6 @@ use Rattle.store.specs.Store.{Rows}
 use Rattle.wants.specs.Wants as wants
 use Rattle.wants.specs.Wants.{Hist}
 use Rattle.head.specs.declared.Shedder.{Shedder}
-use Rattle.head.specs.Numbers.{choose}
 use Rattle.scan.specs.Walking.{walk-overflow, walk}
 use Rattle.scan_trim.specs.Trimming.{scan-then, trimmed}
 
@@ -45,11 +44,11 @@ visit s = visit-with s (retained (s .rows) (s .head .scan .next) (s .head .scan 
 
 -- the second visit of a judgement, where a table remains
 unfoldable pub again : Scanning → Scanning
-again s = choose (leb 1 (s .head .scan .remaining)) (visit s) s
+again s = cond (leb 1 (s .head .scan .remaining)) (visit s) s
 
 -- the last table was visited: the level is set
 unfoldable pub ended : Shedder → Hist → Shedder
-ended h g = choose (eqb (h .scan .remaining) 0) (trimmed h g) h
+ended h g = cond (eqb (h .scan .remaining) 0) (trimmed h g) h
 
 -- a scan begins at the clock
 unfoldable pub opened : Shedder → ℕ → Shedder
@@ -77,13 +76,13 @@ is-idle h clock = cond (leb 1 (h .scan .remaining)) false (ltb clock (h .scan .�
 
 -- none runs, and 500 ms have passed since the last began
 unfoldable pub begun : Shedder → Hist → ℕ → Started
-begun h g clock = choose (leb 1 (h .scan .remaining)) (started h g) (choose (ltb clock (h .scan .«began_ms» + 500)) (started h g) (started (opened h clock) wants.cleared))
+begun h g clock = cond (leb 1 (h .scan .remaining)) (started h g) (cond (ltb clock (h .scan .«began_ms» + 500)) (started h g) (started (opened h clock) wants.cleared))
 
 abbrev pub ended-at : Scanning → Scanning
 ended-at s = scanning (ended (s .head) (s .hist)) (s .rows) (s .hist)
 
 abbrev pub scanned-from : Rows → Started → Scanning
-scanned-from m b = choose (leb 1 (b .head .scan .remaining)) (ended-at (again (visit (scanning (b .head) m (b .hist))))) (scanning (b .head) m (b .hist))
+scanned-from m b = cond (leb 1 (b .head .scan .remaining)) (ended-at (again (visit (scanning (b .head) m (b .hist))))) (scanning (b .head) m (b .hist))
 
 -- what a judgement does of a scan: it begins one that is due, and visits two tables of one that runs
 unfoldable pub scanned : Scanning → ℕ → Scanning

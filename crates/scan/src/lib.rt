@@ -1,4 +1,5 @@
 // The scan that finds the level again, two tables with each judgement.
+ghost use Rattle.flow.specs.Flow.{dims};
 ghost use mathlib.Core.Path.{_≡_};
 ghost use mathlib.Core.Bool.{true};
 ghost use Prim.Native.Nat.{_<_, _≤_, _+_};
@@ -6,7 +7,6 @@ ghost use lib.ListN.{length};
 ghost use Rattle.store.specs.Store as store;
 ghost use Rattle.store_retain.specs.Retain as retain;
 ghost use Rattle.wants.specs.Wants as wants;
-ghost use Rattle.head.specs.Numbers as numbers;
 ghost use Rattle.scan.specs.Walking as walking;
 ghost use Rattle.scan.specs.Scanning as scanning;
 use flow::DIMS;
@@ -14,7 +14,7 @@ use flow::Use;
 use head::Shedder;
 
 fn add_all(counts: &mut [[u32; 768]; DIMS], sums: &mut [[f64; 768]; DIMS], want: [f64; DIMS])
-    ensures { λ r. ⌜ (wants.hist (now (counts .exit)) (now (sums .exit))) ≡ walking.adds want numbers.dims (wants.hist (now (counts .entry)) (now (sums .entry))) ⌝ }
+    ensures { λ r. ⌜ (wants.hist (now (counts .exit)) (now (sums .exit))) ≡ walking.adds want dims (wants.hist (now (counts .entry)) (now (sums .entry))) ⌝ }
 {
     let mut d = 0;
     while d < DIMS {

@@ -22,11 +22,10 @@ use Rattle.ieee.proofs.Operations.{div-rounds, int-rounds}
 use Rattle.ieee.proofs.Extremes.{clamped-nan}
 use Rattle.ieee.proofs.Laws.{rounds-is}
 use Rattle.flow.specs.Flow as flow
-use Rattle.flow.specs.Flow.{nothing, one, at, zeros, numbers}
+use Rattle.flow.specs.Flow.{nothing, one, at, zeros, numbers, dims}
 use Rattle.flow.proofs.Parts.{upto-at}
 use Rattle.wants.specs.Wants.{Hist}
 use Rattle.head.specs.declared.Shedder.{Shedder}
-use Rattle.head.specs.Numbers.{dims}
 use Rattle.scan_trim.specs.Trimming.{is-finite, twentieth, step-of, trim-of, trims, trims-at, levels, opens, span-of}
 use Rattle.scan_trim.specs.Laws.{Trim, Trims, Rates, Levels}
 use Rattle.scan_trim.proofs.Doubles.{Number, finite, Finite, some, add-number, add-to, mul-number, div-number, clamp-number, clamp-trim, trim-positive, positive-finite, number-or-nan, most-least}

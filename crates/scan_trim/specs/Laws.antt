@@ -11,10 +11,9 @@ use lib.ListN.{getD}
 use lib.Ieee as Ieee
 use lib.Ieee.{Float, nan, fin, binary64, fits}
 use Rattle.ieee.specs.Extremes.{most}
-use Rattle.flow.specs.Flow.{half, one, at}
+use Rattle.flow.specs.Flow.{half, one, at, dims}
 use Rattle.wants.specs.Wants.{Hist}
 use Rattle.head.specs.declared.Shedder.{Shedder}
-use Rattle.head.specs.Numbers.{dims}
 use Rattle.scan_trim.specs.Trimming.{trim-of, levels, trimmed}
 
 -- ---- the trim: 0.5 ≤ x ≤ 1. A not-a-number is none, since it compares with nothing

@@ -6,12 +6,11 @@ use lib.Ieee as Ieee
 use lib.Ieee.{Float, binary64, ofBits}
 use Rattle.ieee.specs.Extremes.{most, clamped}
 use Rattle.flow.specs.Flow as flow
-use Rattle.flow.specs.Flow.{nothing, one, at, upto, zeros, numbers}
+use Rattle.flow.specs.Flow.{nothing, one, at, upto, zeros, numbers, dims}
 use Rattle.wants.specs.Wants as wants
 use Rattle.wants.specs.Wants.{Hist}
 use Rattle.head.specs.declared.Scan.{Scan}
 use Rattle.head.specs.declared.Shedder.{Shedder}
-use Rattle.head.specs.Numbers.{dims}
 
 -- the head with another scan, number of records, number of visits, and level
 abbrev pub scan-then : Shedder → Scan → ℕ → ℕ → List Float → Shedder

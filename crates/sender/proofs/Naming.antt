@@ -1,11 +1,11 @@
 -- A unit's words: two units with the same words are the same unit, and the unit of a unit's words is that unit.
 use mathlib.Core.Path.{_≡_, refl, sym, ap, _∙_}
-use mathlib.Core.Bool.{Bool, true, false}
+use mathlib.Core.Bool.{Bool, true, false, cond}
 use Prim.Native.Nat.{ℕ}
 use native.Mathlib.Omega.{arith}
 use borrow.Author.Tests.{eq-eqb, eqb-true, lt-ltb}
 use lib.Dec.{eqb}
-use Rattle.sender.specs.Sender.{Tells, Ranged, pick, words-of, unit-of, name-by-hash, name-of}
+use Rattle.sender.specs.Sender.{Tells, Ranged, words-of, unit-of, name-by-hash, name-of}
 use Rattle.sender.specs.declared.Group.the-variants.{V4, V6}
 use Rattle.sender.specs.declared.Unit as unit
 use Rattle.sender.specs.declared.Unit.the-variants.{Corroborated, Group as Grouped, NoAddress, Overflow}
@@ -32,8 +32,8 @@ by-kind x y a b c d =
 -- by the kind alone
 named : Words → unit.Unit
 named w =
-    pick (eqb (w .kind) 0) (Corroborated (record { a = w .a; b = w .b; c = w .c; d = w .d }))
-    (pick (eqb (w .kind) 1) (Grouped (V4 (w .a))) (pick (eqb (w .kind) 2) (Grouped (V6 (w .a))) (pick (eqb (w .kind) 3) NoAddress Overflow)))
+    cond (eqb (w .kind) 0) (Corroborated (record { a = w .a; b = w .b; c = w .c; d = w .d }))
+    (cond (eqb (w .kind) 1) (Grouped (V4 (w .a))) (cond (eqb (w .kind) 2) (Grouped (V6 (w .a))) (cond (eqb (w .kind) 3) NoAddress Overflow)))
 
 named-back : (u : unit.Unit) → named (words-of u) ≡ u
 unfolding words-of named

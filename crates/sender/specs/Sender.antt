@@ -1,7 +1,7 @@
 -- A unit's bytes, hash, rank and table, and its words in memory. Definitions only.
 use Prim.Native.Nat.{ℕ, _+_, _*_, _/_, _%_, _^_, _<_, min}
 use mathlib.Core.Path.{_≡_}
-use mathlib.Core.Bool.{Bool, true, false}
+use mathlib.Core.Bool.{Bool, true, false, cond}
 use mathlib.Core.List.{List, [], _∷_, _++_}
 use lib.Dec.{eqb, ltb}
 use lib.IntN.{pos}
@@ -95,17 +95,13 @@ Ranged (Grouped (V6 prefix)) = prefix < 4294967296
 Ranged NoAddress = Unit {0}
 Ranged Overflow = Unit {0}
 
-abbrev pub pick : Bool → unit.Unit → unit.Unit → unit.Unit
-pick true u v = u
-pick false u v = v
-
 -- any other kind, and a number too large for its group, is overflow
 unfoldable pub unit-of : Words → unit.Unit
 unit-of w =
-    pick (eqb (w .kind) 0) (Corroborated (record { a = w .a; b = w .b; c = w .c; d = w .d }))
-    (pick (eqb (w .kind) 1) (pick (ltb (w .a) 65536) (Grouped (V4 (w .a))) Overflow)
-    (pick (eqb (w .kind) 2) (pick (ltb (w .a) 4294967296) (Grouped (V6 (w .a))) Overflow)
-    (pick (eqb (w .kind) 3) NoAddress Overflow)))
+    cond (eqb (w .kind) 0) (Corroborated (record { a = w .a; b = w .b; c = w .c; d = w .d }))
+    (cond (eqb (w .kind) 1) (cond (ltb (w .a) 65536) (Grouped (V4 (w .a))) Overflow)
+    (cond (eqb (w .kind) 2) (cond (ltb (w .a) 4294967296) (Grouped (V6 (w .a))) Overflow)
+    (cond (eqb (w .kind) 3) NoAddress Overflow)))
 
 unfoldable pub name-by-hash : unit.Unit → ℕ → Name
 name-by-hash u hash = record { tag = tag-of-hash hash; words = words-of u }

@@ -7,14 +7,11 @@ use lib.Dec.{eqb, ltb}
 use lib.ListN.{getD, set, replicate}
 use lib.Ieee.{Float}
 use Rattle.flow.specs.Flow as flow
-use Rattle.flow.specs.Flow.{nothing, at, upto}
+use Rattle.flow.specs.Flow.{nothing, at, upto, dims}
 use Rattle.flow.specs.declared.Use.{Use}
 use Rattle.sender.specs.declared.Name.{Name}
 use Rattle.sender.specs.declared.Words.{Words}
 use Rattle.sender.specs.Sender as sender
-
-abbrev pub dims : ℕ
-dims = flow.dims
 
 -- the lent lists: a record is one place of each
 pub record Rows : Type 0 where

@@ -1,4 +1,5 @@
 // A use as floats of memory: attempted per dimension, then credit per dimension.
+ghost use Rattle.flow.specs.Flow.{dims};
 ghost use mathlib.Core.Path.{_≡_};
 ghost use Prim.Native.Nat.{_<_, _≤_, _+_};
 ghost use Rattle.store.specs.Store as store;
@@ -6,7 +7,7 @@ use flow::DIMS;
 
 // The part for each dimension that begins at `from`.
 pub fn part(row: [f64; 2 * DIMS], from: usize) -> [f64; DIMS]
-    requires { ⌜ from + store.dims ≤ store.dims + store.dims ⌝ }
+    requires { ⌜ from + dims ≤ dims + dims ⌝ }
     ensures { λ r. ⌜ r ≡ store.part row from ⌝ }
 {
     let mut out = [0.0; DIMS];
@@ -19,7 +20,7 @@ pub fn part(row: [f64; 2 * DIMS], from: usize) -> [f64; DIMS]
 }
 
 fn pick(a: [f64; DIMS], b: [f64; DIMS], i: usize) -> f64
-    requires { ⌜ i < store.dims + store.dims ⌝ }
+    requires { ⌜ i < dims + dims ⌝ }
     ensures { λ r. ⌜ r ≡ store.picked a b i ⌝ }
 {
     if i < DIMS { a[i] } else { b[i - DIMS] }

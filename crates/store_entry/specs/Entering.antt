@@ -16,7 +16,6 @@ use Rattle.store.specs.Store.{Rows}
 use Rattle.head.specs.declared.Flow.{Flow}
 use Rattle.head.specs.declared.Shedder.{Shedder}
 use Rattle.store_entry.specs.declared.Place.{Place}
-use Rattle.head.specs.Numbers.{choose}
 
 -- question 9 answered no: one of the n records was found for the name, and is another's
 unfoldable pub is-misplaced : List ℕ → List (List ℕ) → ℕ → Name → Bool
@@ -37,13 +36,13 @@ place i n = record { at = i; tracked = n }
 -- the unit's record; a new one, stamped now, where there is room; else overflow's, whose place is the room
 unfoldable pub entry : Rows → ℕ → ℕ → unit.Unit → ℕ → Entered
 entry m tracked room u now =
-    choose (sender.is-overflow u) (entered (place room tracked) m)
-    (choose (ltb (store.find (m .tags) (m .units) (sender.name-of u) tracked) tracked) (entered (place (store.find (m .tags) (m .units) (sender.name-of u) tracked) tracked) m)
-    (choose (ltb tracked room) (entered (place tracked (tracked + 1)) (store.added m tracked (sender.name-of u) (flow.added now))) (entered (place room tracked) m)))
+    cond (sender.is-overflow u) (entered (place room tracked) m)
+    (cond (ltb (store.find (m .tags) (m .units) (sender.name-of u) tracked) tracked) (entered (place (store.find (m .tags) (m .units) (sender.name-of u) tracked) tracked) m)
+    (cond (ltb tracked room) (entered (place tracked (tracked + 1)) (store.added m tracked (sender.name-of u) (flow.added now))) (entered (place room tracked) m)))
 
 -- the use at a place: a record's, or overflow's
 unfoldable pub used-at : List (List ℕ) → List (List Float) → Use → ℕ → Use
-used-at units uses overflow i = choose (ltb i (length units)) (store.use-at units uses i) overflow
+used-at units uses overflow i = cond (ltb i (length units)) (store.use-at units uses i) overflow
 
 -- overflow's use, and the rows, once a use was put back
 pub record Back : Type 0 where
@@ -55,7 +54,7 @@ abbrev pub back : Use → List (List ℕ) → List (List Float) → Back
 back o units uses = record { overflow = o; units = units; uses = uses }
 
 unfoldable pub put-back : List (List ℕ) → List (List Float) → Use → ℕ → Use → Back
-put-back units uses overflow i u = choose (ltb i (length units)) (back overflow (store.units-put units i u) (store.uses-put uses i u)) (back u units uses)
+put-back units uses overflow i u = cond (ltb i (length units)) (back overflow (store.units-put units i u) (store.uses-put uses i u)) (back u units uses)
 
 -- the head with other flow, overflow's use, and number of records
 abbrev pub headed : Shedder → Flow → Use → ℕ → Shedder

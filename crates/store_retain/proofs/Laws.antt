@@ -13,8 +13,8 @@ use borrow.Author.Tests.{lt-ltb, le-ltb, ltb-true, ltb-false}
 use Rattle.sender.specs.Sender.{table-of-tag}
 use Rattle.store.specs.Store.{Rows, stamp-at, in-table, table-at}
 use Rattle.store.proofs.Places.{Same, same-self, same-join}
-use Rattle.store_retain.specs.Retain.{Kept, kept, either, freed, moved, is-old, is-stale, retain-one, retained}
-use Rattle.store_retain.specs.Laws.{Record, record-at, records, zero-bits, stale, choose, without, Drops, Retains}
+use Rattle.store_retain.specs.Retain.{Kept, kept, freed, moved, is-old, is-stale, retain-one, retained}
+use Rattle.store_retain.specs.Laws.{Record, record-at, records, zero-bits, stale, without, Drops, Retains}
 use Rattle.store_retain.proofs.Places.{freed-other, moved-other, Long, long-join, Reaches, freed-long, moved-long, moved-there}
 
 -- ---- a place as a record
@@ -65,16 +65,16 @@ records-long m (suc n) = length-append (records m n) (record-at m n ∷ []) ∙ 
 
 -- ---- those left of one record more
 without-cons : (b c : Bool) (x r : Record) (l : List Record)
-    → choose b (choose c l (l ++ (r ∷ []))) (x ∷ choose c l (l ++ (r ∷ []))) ≡ choose c (choose b l (x ∷ l)) (choose b l (x ∷ l) ++ (r ∷ []))
+    → cond b (cond c l (l ++ (r ∷ []))) (x ∷ cond c l (l ++ (r ∷ []))) ≡ cond c (cond b l (x ∷ l)) (cond b l (x ∷ l) ++ (r ∷ []))
 without-cons true true x r l = refl
 without-cons true false x r l = refl
 without-cons false true x r l = refl
 without-cons false false x r l = refl
 
-without-end : (p : Record → Bool) (xs : List Record) (r : Record) → without p (xs ++ (r ∷ [])) ≡ choose (p r) (without p xs) (without p xs ++ (r ∷ []))
+without-end : (p : Record → Bool) (xs : List Record) (r : Record) → without p (xs ++ (r ∷ [])) ≡ cond (p r) (without p xs) (without p xs ++ (r ∷ []))
 unfolding without
 without-end p [] r = refl
-without-end p (x ∷ xs) r = ap (λ (l : List Record). choose (p x) l (x ∷ l)) (without-end p xs r) ∙ without-cons (p x) (p r) x r (without p xs)
+without-end p (x ∷ xs) r = ap (λ (l : List Record). cond (p x) l (x ∷ l)) (without-end p xs r) ∙ without-cons (p x) (p r) x r (without p xs)
 
 -- ---- a pass
 module _ (m : Rows) (t a : ℕ) where
@@ -96,11 +96,11 @@ module _ (m : Rows) (t a : ℕ) where
     same-stale = stale-at (k .rows) t a n ∙ ap (stale t a) as-before
 
     more : (b : Bool) → stale t a (record-at m n) ≡ b
-        → without (stale t a) (records m (n + 1)) ≡ choose b (records (k .rows) (k .count)) (records (k .rows) (k .count) ++ (record-at m n ∷ []))
+        → without (stale t a) (records m (n + 1)) ≡ cond b (records (k .rows) (k .count)) (records (k .rows) (k .count) ++ (record-at m n ∷ []))
     more b e =
         ap (without (stale t a)) (records-next m n) ∙ without-end (stale t a) (records m n) (record-at m n)
-        ∙ ap (λ (c : Bool). choose c (without (stale t a) (records m n)) (without (stale t a) (records m n) ++ (record-at m n ∷ []))) e
-        ∙ ap (λ (l : List Record). choose b l (l ++ (record-at m n ∷ []))) (sym (w .list))
+        ∙ ap (λ (c : Bool). cond c (without (stale t a) (records m n)) (without (stale t a) (records m n) ++ (record-at m n ∷ []))) e
+        ∙ ap (λ (l : List Record). cond b l (l ++ (record-at m n ∷ []))) (sym (w .list))
 
     -- what is not the place freed
     still : (j : ℕ) → (j ≡ n → ⊥) → Same (freed (k .rows) n) j (k .rows) j
@@ -164,7 +164,7 @@ module _ (m : Rows) (t a : ℕ) where
     step = by (is-stale (k .rows .tags) (k .rows .units) t a n) refl (ltb (k .count) n) refl
       where
         by : (b : Bool) → is-stale (k .rows .tags) (k .rows .units) t a n ≡ b → (c : Bool) → ltb (k .count) n ≡ c
-            → Passed (n + 1) (either b (kept (k .count) (freed (k .rows) n)) (either c (kept (k .count + 1) (moved (k .rows) n (k .count))) (kept (k .count + 1) (k .rows))))
+            → Passed (n + 1) (cond b (kept (k .count) (freed (k .rows) n)) (cond c (kept (k .count + 1) (moved (k .rows) n (k .count))) (kept (k .count + 1) (k .rows))))
         by true e c f = step-freed (sym same-stale ∙ e)
         by false e true f = step-moved (ltb-true (k .count) n f) (sym same-stale ∙ e)
         by false e false f = step-stays (sym same-stale ∙ e) (ltb-false (k .count) n f)

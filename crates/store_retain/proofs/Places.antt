@@ -4,14 +4,14 @@ use Prim.Native.Nat.{ℕ, zero, suc, _+_, _-_, _≤_, _<_}
 use native.Mathlib.Numerals.{add-one}
 use native.Mathlib.Omega.{arith}
 use native.Mathlib.Nat.{add-sub-of-le, add-zero, add-suc}
-use mathlib.Core.Bool.{Bool, true, false}
+use mathlib.Core.Bool.{Bool, true, false, cond}
 use mathlib.Core.List.{[]}
 use lib.Dec.{ltb}
 use lib.ListN.{length, getD, length-set}
 use lib.Seq.{getD-set-other}
 use Rattle.store.specs.Store.{Rows, None}
 use Rattle.store.proofs.Places.{put-there, Same, same-self, same-join}
-use Rattle.store_retain.specs.Retain.{Kept, kept, either, freed, moved, is-stale, retain-one, retained}
+use Rattle.store_retain.specs.Retain.{Kept, kept, freed, moved, is-stale, retain-one, retained}
 use Rattle.store_retain.proofs.Steps.{retained-still, retained-next}
 
 pub freed-other : (m : Rows) (i j : ℕ) → (j ≡ i → ⊥) → Same (freed m i) j m j
@@ -65,7 +65,7 @@ module _ (m : Rows) (t a from : ℕ) where
   unfolding retain-one Before
   one-before k n h w = by (is-stale (k .rows .tags) (k .rows .units) t a n) (ltb (k .count) n)
     where
-      by : (b c : Bool) → Before m from (either b (kept (k .count) (freed (k .rows) n)) (either c (kept (k .count + 1) (moved (k .rows) n (k .count))) (kept (k .count + 1) (k .rows))))
+      by : (b c : Bool) → Before m from (cond b (kept (k .count) (freed (k .rows) n)) (cond c (kept (k .count + 1) (moved (k .rows) n (k .count))) (kept (k .count + 1) (k .rows))))
       by true c = (w .0, λ j l. same-join (freed (k .rows) n) (k .rows) m j (freed-other (k .rows) n j (λ q. absurd (omega arith))) (w .1 j l))
       by false true = (omega (arith, w .0), λ j l. same-join (moved (k .rows) n (k .count)) (k .rows) m j (moved-other (k .rows) n (k .count) j (λ q. absurd (omega arith)) (λ q. absurd (omega (arith, w .0)))) (w .1 j l))
       by false false = (omega (arith, w .0), w .1)

@@ -1,5 +1,6 @@
 -- What a pass leaves of the records: exactly those that are not stale, in their order, and zero bits behind them. Statements only;
 -- proofs/Laws.antt proves them. They refuse a definition that drops other records, whatever the code does.
+use Rattle.flow.specs.Flow.{dims}
 use Prim.Native.Nat.{ℕ, zero, suc, _+_, _≤_, _<_}
 use mathlib.Core.Path.{_≡_}
 use mathlib.Core.Bool.{Bool, true, false, cond}
@@ -8,7 +9,7 @@ use lib.Dec.{eqb, ltb}
 use lib.Ieee.{Float, binary64, ofBits}
 use lib.ListN.{length, getD, replicate}
 use Rattle.sender.specs.Sender.{table-of-tag}
-use Rattle.store.specs.Store.{Rows, dims}
+use Rattle.store.specs.Store.{Rows}
 use Rattle.store_retain.specs.Retain.{Kept, retained}
 
 -- a record: what one place of each lent list holds. The words of its row are the kind, four words of the unit, the stamp, the fresh mark
@@ -32,14 +33,10 @@ zero-bits = record { tag = 0; words = replicate 7 0; floats = replicate (dims + 
 unfoldable pub stale : ℕ → ℕ → Record → Bool
 stale table scan r = cond (eqb (table-of-tag (r .tag)) table) (ltb (getD (r .words) 5 0 + 8000) scan) false
 
-abbrev pub choose : Bool → List Record → List Record → List Record
-choose true a b = a
-choose false a b = b
-
 -- those of which p does not hold, in their order
 unfoldable pub without : (Record → Bool) → List Record → List Record
 without p [] = []
-without p (r ∷ rs) = choose (p r) (without p rs) (r ∷ without p rs)
+without p (r ∷ rs) = cond (p r) (without p rs) (r ∷ without p rs)
 
 -- of m's first n records those that are stale are dropped: k is how many stay, and the lists then
 pub record Drops (m : Rows) (table scan n : ℕ) (k : Kept) : Type 0 where

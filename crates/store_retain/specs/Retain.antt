@@ -4,8 +4,8 @@ use mathlib.Core.Bool.{Bool, true, false, cond}
 use mathlib.Core.List.{List, []}
 use lib.Dec.{ltb}
 use lib.ListN.{getD, set, replicate}
-use Rattle.flow.specs.Flow.{nothing}
-use Rattle.store.specs.Store.{Rows, dims, unit-row, stamp-at, in-table}
+use Rattle.flow.specs.Flow.{nothing, dims}
+use Rattle.store.specs.Store.{Rows, unit-row, stamp-at, in-table}
 
 -- more than 8,000 milliseconds before
 abbrev pub is-old : ℕ → ℕ → Bool
@@ -36,14 +36,10 @@ abbrev pub kept : ℕ → Rows → Kept
 kept n m = record { count = n; rows = m }
 
 -- one record: freed where it is stale, else moved to the end of those kept
-abbrev pub either : Bool → Kept → Kept → Kept
-either true a b = a
-either false a b = b
-
 unfoldable pub retain-one : Kept → ℕ → ℕ → ℕ → Kept
 retain-one k table now i =
-    either (is-stale (k .rows .tags) (k .rows .units) table now i) (kept (k .count) (freed (k .rows) i))
-    (either (ltb (k .count) i) (kept (k .count + 1) (moved (k .rows) i (k .count))) (kept (k .count + 1) (k .rows)))
+    cond (is-stale (k .rows .tags) (k .rows .units) table now i) (kept (k .count) (freed (k .rows) i))
+    (cond (ltb (k .count) i) (kept (k .count + 1) (moved (k .rows) i (k .count))) (kept (k .count + 1) (k .rows)))
 
 -- the first n records, one after the other
 unfoldable pub retained : Rows → ℕ → ℕ → ℕ → Kept

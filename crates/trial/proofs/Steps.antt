@@ -18,7 +18,7 @@ use Rattle.judge.specs.Judging as judging
 use Rattle.judge.specs.Judging.{Memory, memory, Judged}
 use Rattle.cut.specs.Cutting as cutting
 use Rattle.report_lines.specs.Lines.{text}
-use Rattle.report.specs.Report.{report-asked, front, choose}
+use Rattle.report.specs.Report.{report-asked, front}
 use Rattle.trial_script.specs.declared.StartLine.{StartLine}
 use Rattle.trial_script.specs.declared.JudgeLine.{JudgeLine}
 use Rattle.trial_script.specs.declared.CutLine.{CutLine}
@@ -115,7 +115,7 @@ module _ (s : State) where
 
   front-is : (room : ℕ) → asked-with room ≡ 0 → front-with room ≡ text (s .head) (s .memory .counted)
   unfolding front
-  front-is room e = ap (λ (x : Bool). choose x (text (s .head) (s .memory .counted)) []) (eq-eqb (asked-with room) 0 e)
+  front-is room e = ap (λ (x : Bool). cond x (text (s .head) (s .memory .counted)) []) (eq-eqb (asked-with room) 0 e)
 
   pub report-step : (n room again : ℕ) (f : List ℕ) (q : Page) → s .started ≡ true → n ≡ asked-with room → room ≡ 4096 → again ≡ 4096 → n ≡ 0
       → f ≡ front-with again → q ≡ write (s .page) f → made (s .head) (s .started) (s .memory) q ≡ report s

@@ -91,15 +91,15 @@ unfolding width
 digits-clear base zero n = refl
 digits-clear base (suc k) n = clear-append (digits base k (n / base)) (glyph (n % base) ∷ []) (digits-clear base k (n / base)) (glyph-clear (n % base))
 
-either-clear : (t : Bool) (x y : List ℕ) → Clear x → Clear y → Clear (cond t x y)
-either-clear true x y ex ey = ex
-either-clear false x y ex ey = ey
+cond-clear : (t : Bool) (x y : List ℕ) → Clear x → Clear y → Clear (cond t x y)
+cond-clear true x y ex ey = ex
+cond-clear false x y ex ey = ey
 
 numeral-clear : (base most n : ℕ) → Clear (numeral base most n)
 unfolding numeral width
 numeral-clear base zero n = refl
 numeral-clear base (suc most) n =
-    either-clear (ltb n base) (glyph n ∷ []) (numeral base most (n / base) ++ (glyph (n % base) ∷ [])) (glyph-clear n)
+    cond-clear (ltb n base) (glyph n ∷ []) (numeral base most (n / base) ++ (glyph (n % base) ∷ [])) (glyph-clear n)
     (clear-append (numeral base most (n / base)) (glyph (n % base) ∷ []) (numeral-clear base most (n / base)) (glyph-clear (n % base)))
 
 pub decimal-clear : (n : ℕ) → Clear (decimal n)

@@ -3,7 +3,7 @@ use mathlib.Core.Path.{_≡_, refl, sym, ap, _∙_, subst}
 use Prim.Native.Nat.{ℕ, _-_, _*_, _^_, _≤_, _<_}
 use native.Mathlib.Nat.{le-trans, le-of-eq}
 use native.Mathlib.Omega.{arith}
-use mathlib.Core.Bool.{Bool, true, false, true≢false}
+use mathlib.Core.Bool.{Bool, true, false, true≢false, cond}
 use mathlib.Core.List.{List}
 use lib.Dec.{T}
 use lib.Ieee as Ieee
@@ -19,7 +19,7 @@ use Rattle.flow.proofs.Parts.{upto-length, each-at, buckets-at, all-at, all-of}
 use Rattle.flow.proofs.Difference.{sub-whole}
 use Rattle.verdict.specs.declared.Verdict.{Verdict}
 use Rattle.verdict.specs.declared.Verdict.the-variants.{Admitted, OverShare, RelayRate}
-use Rattle.verdict.specs.Verdict.{covers, suffice, leaves, mark-of, met, pick, within, above, decided, settled, credit-holds, tokens-hold}
+use Rattle.verdict.specs.Verdict.{covers, suffice, leaves, mark-of, met, within, above, decided, settled, credit-holds, tokens-hold}
 use Rattle.verdict.specs.Laws as law
 use Rattle.verdict.specs.Laws.{Asked, Kept, Told, Pays}
 
@@ -33,7 +33,7 @@ apart : {v w : Verdict} → v ≡ w → (number v ≡ number w → ⊥) → ⊥
 apart e f = f (ap number e)
 
 -- ---- what the decision says, by its tests: w the want within the level, c credit, t tokens, r reserve
-admitted-by : (w c t r : Bool) → pick w (within c t) (above c t r) ≡ Admitted → (c ≡ true) × (t ≡ true)
+admitted-by : (w c t r : Bool) → cond w (within c t) (above c t r) ≡ Admitted → (c ≡ true) × (t ≡ true)
 admitted-by w true true r e = (refl, refl)
 admitted-by true true false r e = absurd (apart e (λ n. omega arith))
 admitted-by true false true r e = absurd (apart e (λ n. omega arith))
@@ -42,7 +42,7 @@ admitted-by false true false r e = absurd (apart e (λ n. omega arith))
 admitted-by false false true r e = absurd (apart e (λ n. omega arith))
 admitted-by false false false r e = absurd (apart e (λ n. omega arith))
 
-relayed-by : (w c t r : Bool) → pick w (within c t) (above c t r) ≡ RelayRate → (c ≡ true) × (t ≡ false)
+relayed-by : (w c t r : Bool) → cond w (within c t) (above c t r) ≡ RelayRate → (c ≡ true) × (t ≡ false)
 relayed-by w true false r e = (refl, refl)
 relayed-by true true true r e = absurd (apart e (λ n. omega arith))
 relayed-by true false true r e = absurd (apart e (λ n. omega arith))
@@ -52,7 +52,7 @@ relayed-by false true true false e = absurd (apart e (λ n. omega arith))
 relayed-by false false true r e = absurd (apart e (λ n. omega arith))
 relayed-by false false false r e = absurd (apart e (λ n. omega arith))
 
-shared-by : (w c t r : Bool) → T w → c ≡ true → pick w (within c t) (above c t r) ≡ OverShare → ⊥
+shared-by : (w c t r : Bool) → T w → c ≡ true → cond w (within c t) (above c t r) ≡ OverShare → ⊥
 shared-by true true true r l q e = apart e (λ n. omega arith)
 shared-by true true false r l q e = apart e (λ n. omega arith)
 shared-by true false t r l q e = true≢false (sym q)

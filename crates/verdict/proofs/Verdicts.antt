@@ -1,7 +1,7 @@
 -- A judgement from its parts. Assumes nothing.
 use mathlib.Core.Path.{_≡_, sym, ap, _∙_}
 use Prim.Native.Nat.{ℕ, _-_}
-use mathlib.Core.Bool.{Bool, true, false}
+use mathlib.Core.Bool.{Bool, true, false, cond}
 use mathlib.Core.List.{List}
 use lib.Ieee.{Float}
 use Rattle.flow.specs.declared.Bucket.{Bucket}
@@ -9,16 +9,16 @@ use Rattle.flow.specs.declared.Use.{Use}
 use Rattle.flow.specs.Flow.{spent-all, charged, tried, fade-to, credited, refilled-all, is-fresh}
 use Rattle.verdict.specs.declared.Outcome.{Outcome}
 use Rattle.verdict.specs.declared.Verdict.{Verdict}
-use Rattle.verdict.specs.Verdict.{is-admitted, settled, either, decided, covers, suffice, leaves, mark-of, weighed, judged, want, weight-of, met}
+use Rattle.verdict.specs.Verdict.{is-admitted, settled, decided, covers, suffice, leaves, mark-of, weighed, judged, want, weight-of, met}
 
 module _ (v : Verdict) (bs bs' : List Bucket) (u u' : Use) (cost : List Float) (r : Bool) (e : r ≡ is-admitted v) where
   pub settled-yes : r ≡ true → bs' ≡ spent-all bs cost → u' ≡ charged u cost → record { verdict = v; buckets = bs'; used = u' } ≡ settled v bs u cost
   settled-yes q f g =
       ap (λ (x : List Bucket). record { verdict = v; buckets = x; used = u' }) f ∙ ap (λ (x : Use). record { verdict = v; buckets = spent-all bs cost; used = x }) g
-      ∙ ap (λ (b : Bool). either b (record { verdict = v; buckets = spent-all bs cost; used = charged u cost }) (record { verdict = v; buckets = bs; used = u })) (sym q ∙ e)
+      ∙ ap (λ (b : Bool). cond b (record { verdict = v; buckets = spent-all bs cost; used = charged u cost }) (record { verdict = v; buckets = bs; used = u })) (sym q ∙ e)
 
   pub settled-no : r ≡ false → record { verdict = v; buckets = bs; used = u } ≡ settled v bs u cost
-  settled-no q = ap (λ (b : Bool). either b (record { verdict = v; buckets = spent-all bs cost; used = charged u cost }) (record { verdict = v; buckets = bs; used = u })) (sym q ∙ e)
+  settled-no q = ap (λ (b : Bool). cond b (record { verdict = v; buckets = spent-all bs cost; used = charged u cost }) (record { verdict = v; buckets = bs; used = u })) (sym q ∙ e)
 
 pub weighed-is : (wants rank m : Float) (bs : List Bucket) (u : Use) (cost : List Float) (a t l : Bool) (v : Verdict) (o : Outcome)
     → o ≡ settled v bs u cost → v ≡ decided wants a t l → l ≡ leaves bs cost m → m ≡ mark-of wants rank → t ≡ suffice bs cost → a ≡ covers (u .credit) cost → o ≡ weighed wants rank bs u cost

@@ -48,18 +48,14 @@ abbrev pub covers : List Float → List Float → Bool
 covers credit cost = all (λ (d : ℕ). credit-holds (at credit d) (at cost d)) dims
 
 -- ---- the decision: within the level, credit and then tokens; above it all must hold, the reserve too
-abbrev pub pick : Bool → Verdict → Verdict → Verdict
-pick true a b = a
-pick false a b = b
-
 abbrev pub within : Bool → Bool → Verdict
-within credit tokens = pick credit (pick tokens Admitted RelayRate) OverShare
+within credit tokens = cond credit (cond tokens Admitted RelayRate) OverShare
 
 abbrev pub above : Bool → Bool → Bool → Verdict
-above credit tokens reserve = pick credit (pick tokens (pick reserve Admitted OverShare) OverShare) OverShare
+above credit tokens reserve = cond credit (cond tokens (cond reserve Admitted OverShare) OverShare) OverShare
 
 abbrev pub decided : Float → Bool → Bool → Bool → Verdict
-decided wants credit tokens reserve = pick (Ieee.le wants one) (within credit tokens) (above credit tokens reserve)
+decided wants credit tokens reserve = cond (Ieee.le wants one) (within credit tokens) (above credit tokens reserve)
 
 abbrev pub is-admitted : Verdict → Bool
 is-admitted Admitted = true
@@ -73,12 +69,8 @@ abbrev pub leaves : List Bucket → List Float → Float → Bool
 leaves bs cost mark = all (λ (d : ℕ). reserve-holds (bucket-at bs d) (at cost d) mark) dims
 
 -- ---- a judgement on a record that was found or added
-abbrev pub either : Bool → Outcome → Outcome → Outcome
-either true a b = a
-either false a b = b
-
 abbrev pub settled : Verdict → List Bucket → Use → List Float → Outcome
-settled v bs u cost = either (is-admitted v) (record { verdict = v; buckets = spent-all bs cost; used = charged u cost }) (record { verdict = v; buckets = bs; used = u })
+settled v bs u cost = cond (is-admitted v) (record { verdict = v; buckets = spent-all bs cost; used = charged u cost }) (record { verdict = v; buckets = bs; used = u })
 
 -- with the buckets refilled, and the use credited and tried
 abbrev pub weighed : Float → Float → List Bucket → Use → List Float → Outcome

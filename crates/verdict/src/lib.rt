@@ -1,6 +1,6 @@
 // What decides: a unit's want, the rules, the verdict, and a judgement on one record. Floats by value; no store is known here.
 ghost use mathlib.Core.Path.{_≡_};
-ghost use mathlib.Core.Bool.{_&&_};
+ghost use mathlib.Core.Bool.{_&&_, cond};
 ghost use Rattle.verdict.specs.Verdict as verdicts;
 use flow::Bucket;
 use flow::DIMS;
@@ -69,7 +69,7 @@ pub fn mark_of(wants: f64, rank: f64) -> f64
 }
 
 fn pick(holds: bool, yes: Verdict, no: Verdict) -> Verdict
-    ensures { λ r. ⌜ r ≡ verdicts.pick holds yes no ⌝ }
+    ensures { λ r. ⌜ r ≡ cond holds yes no ⌝ }
 {
     if holds { yes } else { no }
 }

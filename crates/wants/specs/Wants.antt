@@ -8,11 +8,8 @@ use lib.ListN.{getD, set, replicate}
 use lib.Ieee as Ieee
 use lib.Ieee.{Float, binary64, ofBits, ofInt}
 use Rattle.flow.specs.Flow as flow
-use Rattle.flow.specs.Flow.{nothing}
+use Rattle.flow.specs.Flow.{nothing, dims}
 use Rattle.wants.specs.Bucket.{bucket-of}
-
-abbrev pub dims : ℕ
-dims = flow.dims
 
 -- a count as a double
 abbrev pub number : ℕ → Float

@@ -1,4 +1,5 @@
 // The histogram of wants, per dimension, and the level found from it.
+ghost use Rattle.flow.specs.Flow.{dims};
 ghost use mathlib.Core.Path.{_≡_};
 ghost use mathlib.Core.List.{[]};
 ghost use lib.ListN.{getD};
@@ -30,7 +31,7 @@ pub fn add(
     dim: usize,
     want: f64,
 )
-    requires { ⌜ dim < wants.dims ⌝ }
+    requires { ⌜ dim < dims ⌝ }
     ensures { λ r. ⌜ wants.hist (now (counts .exit)) (now (sums .exit)) ≡ wants.added (wants.hist (now (counts .entry)) (now (sums .entry))) dim want ⌝ }
 {
     let b = bucket_of(want);
@@ -62,7 +63,7 @@ fn wide(n: u32) -> u64
 // The number of units counted in a dimension. The definition sums doubles from the lowest bucket up. Each of those sums is
 // a whole number below 2^53, so none is rounded, and the whole numbers summed first come to the same double.
 fn counted(counts: &[[u32; BUCKETS]; DIMS], dim: usize) -> f64
-    requires { ⌜ dim < wants.dims ⌝ }
+    requires { ⌜ dim < dims ⌝ }
     ensures { λ r. ⌜ r ≡ wants.counted (getD (now (counts .entry)) dim []) 768 ⌝ }
 {
     let mut total = 0;
@@ -82,7 +83,7 @@ pub fn level(
     dim: usize,
     rate: f64,
 ) -> f64
-    requires { ⌜ dim < wants.dims ⌝ }
+    requires { ⌜ dim < dims ⌝ }
     ensures { λ r. ⌜ r ≡ wants.level (wants.hist (now (counts .entry)) (now (sums .entry))) dim rate ⌝ }
 {
     let mut left = rate;

@@ -1,5 +1,4 @@
-use Rattle.head.specs.Numbers.{dims}
-use Rattle.flow.specs.Flow.{zeros}
+use Rattle.flow.specs.Flow.{zeros, dims}
 use Rattle.cut.specs.Cutting.{lowered}
 use lib.Ieee.{binary64, sub}
 use Rattle.ieee.specs.Extremes.{most}

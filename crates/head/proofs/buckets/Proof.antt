@@ -1,8 +1,7 @@
-use Rattle.head.specs.Numbers.{dims}
 use Rattle.head.specs.Start.{buckets}
 use lib.ListN.{getD, replicate}
 use Rattle.flow.proofs.Parts.{upto-none, upto-next}
-use Rattle.flow.specs.Flow.{upto, nothing, opened}
+use Rattle.flow.specs.Flow.{upto, nothing, opened, dims}
 use native.Mathlib.Omega.{arith}
 use Prim.Native.Nat.{ℕ, _≤_, _-_}
 use mathlib.Core.Path.{_≡_}

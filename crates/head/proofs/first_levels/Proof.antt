@@ -1,8 +1,7 @@
-use Rattle.head.specs.Numbers.{dims}
 use Rattle.head.specs.Start.{first-levels}
 use lib.Ieee.{binary64, ofBits}
 use Rattle.flow.proofs.Parts.{upto-none, upto-next}
-use Rattle.flow.specs.Flow.{at, upto, zeros}
+use Rattle.flow.specs.Flow.{at, upto, zeros, dims}
 use Rattle.ieee.specs.Extremes.{least}
 use native.Mathlib.Omega.{arith}
 use Prim.Native.Nat.{ℕ, _≤_, _-_}

@@ -1,9 +1,8 @@
 use Rattle.scan.proofs.Turns.{adds-none, adds-next}
 use Rattle.wants.specs.Wants as wants
 use Rattle.wants.specs.Wants.{Hist, hist}
-use Rattle.head.specs.Numbers.{dims}
 use Rattle.scan.specs.Walking.{adds}
-use Rattle.flow.specs.Flow.{at}
+use Rattle.flow.specs.Flow.{at, dims}
 use native.Mathlib.Omega.{arith}
 use Prim.Native.Nat.{_≤_, _-_}
 use mathlib.Core.Path.{_≡_, sym, ap, _∙_}

@@ -1,8 +1,7 @@
-use Rattle.head.specs.Numbers.{dims}
 use Rattle.scan_trim.specs.Trimming.{levels}
 use lib.Ieee.{binary64, mul}
 use Rattle.flow.proofs.Parts.{upto-none, upto-next}
-use Rattle.flow.specs.Flow.{at, upto, zeros, one}
+use Rattle.flow.specs.Flow.{at, upto, zeros, one, dims}
 use Rattle.ieee.specs.Extremes.{most}
 use native.Mathlib.Omega.{arith}
 use Prim.Native.Nat.{ℕ, _≤_, _-_}

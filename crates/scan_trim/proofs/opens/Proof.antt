@@ -1,8 +1,7 @@
 use Rattle.wants.specs.Wants.{hist, level}
-use Rattle.head.specs.Numbers.{dims}
 use Rattle.scan_trim.specs.Trimming.{opens}
 use Rattle.flow.proofs.Parts.{upto-none, upto-next}
-use Rattle.flow.specs.Flow.{at, upto, zeros}
+use Rattle.flow.specs.Flow.{at, upto, zeros, dims}
 use native.Mathlib.Omega.{arith}
 use Prim.Native.Nat.{ℕ, _≤_, _-_}
 use mathlib.Core.Path.{_≡_}

@@ -1,9 +1,8 @@
 use Rattle.scan_trim.specs.Trimming.{trim-of}
-use Rattle.head.specs.Numbers.{dims}
 use Rattle.scan_trim.specs.Trimming.{trims}
 use lib.Ieee.{binary64, sub}
 use Rattle.flow.proofs.Parts.{upto-none, upto-next}
-use Rattle.flow.specs.Flow.{at, upto, zeros}
+use Rattle.flow.specs.Flow.{at, upto, zeros, dims}
 use native.Mathlib.Omega.{arith}
 use Prim.Native.Nat.{ℕ, _≤_, _-_}
 use mathlib.Core.Path.{_≡_}

@@ -1,9 +1,10 @@
 -- `wants::counted` meets its contract: the whole number summed so far is, as a double, the sum of the buckets passed. Assumes nothing.
+use Rattle.flow.specs.Flow.{dims}
 use Rattle.wants.proofs.Steps.{counted-none}
 use Rattle.wants.proofs.Whole.{number-zero, sum-next}
 use native.Mathlib.Omega.{arith}
 use Prim.Native.Nat.{_*_, _≤_, _<_, _-_}
-use Rattle.wants.specs.Wants.{counted, number, dims}
+use Rattle.wants.specs.Wants.{counted, number}
 use mathlib.Core.List.{[]}
 use mathlib.Core.Path.{_≡_, sym, _∙_}
 use lib.ListN.{getD}

@@ -1,6 +1,7 @@
 -- `wants::level` meets its contract: so far every bucket fits, with what is left and who remains. Assumes nothing.
+use Rattle.flow.specs.Flow.{dims}
 use Rattle.wants.proofs.Steps.{walked-next, empty, fitting, stopping, found-level}
-use Rattle.wants.specs.Wants.{dims, fits, walked, found, level}
+use Rattle.wants.specs.Wants.{fits, walked, found, level}
 use mathlib.Core.List.{[]}
 use lib.ListN.{getD}
 use native.Mathlib.Omega.{arith}

@@ -5,8 +5,8 @@ use lib.ListN.{replicate}
 use mathlib.Core.Path.{_≡_}
 use native.Mathlib.Omega.{arith}
 use Rattle.flow.proofs.Parts.{upto-none, upto-next}
-use Rattle.flow.specs.Flow.{upto, nothing}
-use Rattle.store.specs.Store.{dims, picked, joined}
+use Rattle.flow.specs.Flow.{upto, nothing, dims}
+use Rattle.store.specs.Store.{picked, joined}
 use Rattle.store.proofs.floats.joined.Statement.{statement}
 use Rattle.store.proofs.floats.joined.Tie as tie
 

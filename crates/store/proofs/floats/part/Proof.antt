@@ -5,8 +5,8 @@ use lib.ListN.{replicate}
 use mathlib.Core.Path.{_≡_}
 use native.Mathlib.Omega.{arith}
 use Rattle.flow.proofs.Parts.{upto-none, upto-next}
-use Rattle.flow.specs.Flow.{at, upto, nothing}
-use Rattle.store.specs.Store.{dims, part}
+use Rattle.flow.specs.Flow.{at, upto, nothing, dims}
+use Rattle.store.specs.Store.{part}
 use Rattle.store.proofs.floats.part.Statement.{statement}
 use Rattle.store.proofs.floats.part.Tie as tie
 
