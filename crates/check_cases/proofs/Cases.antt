@@ -2,6 +2,7 @@
 use mathlib.Core.Path.{refl, _∙_}
 use mathlib.Core.List.{[], _∷_}
 use lib.Ieee.{lt, ofBits, ofInt}
+use Rattle.ieee.specs.Doubles.{whole}
 use Rattle.fade.specs.Fade.{fade}
 use Rattle.fnv.specs.Fnv.{fed, feed, fnv1a}
 use Rattle.label.specs.Label.{label, v6-label}
@@ -11,7 +12,6 @@ use Rattle.cut_sources.specs.Counted.{total, totals, keep-from, above, prune, p
 use Rattle.text.specs.Number.{numeral, hexadecimal}
 use Rattle.text.specs.Page.{joined}
 use Rattle.wants.specs.Bucket.{bucket-of, reaches, largest}
-use Rattle.wants.specs.Wants.{number}
 use Rattle.check_cases.specs.Cases as table
 use Rattle.check_cases.proofs.Levels.{level-filled, cut, both-kept, none-cut}
 use Rattle.check_cases.proofs.Fresh.{fade-of-0, ten, want-is-one, is-relayed}
@@ -29,8 +29,8 @@ cases = record {
   bucket-1·5 = refl;
   bucket-2 = refl;
   bucket-2^48 = refl;
-  level-2-20 = λ d h. level-filled d (number 2 ∷ number 20 ∷ []) h ∙ cut;
-  level-2-3 = λ d h. level-filled d (number 2 ∷ number 3 ∷ []) h ∙ both-kept;
+  level-2-20 = λ d h. level-filled d (whole 2 ∷ whole 20 ∷ []) h ∙ cut;
+  level-2-3 = λ d h. level-filled d (whole 2 ∷ whole 3 ∷ []) h ∙ both-kept;
   level-none = λ d h. level-filled d [] h ∙ none-cut;
   totals = refl;
   totals-in-another-order = refl;

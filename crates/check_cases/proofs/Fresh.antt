@@ -7,9 +7,10 @@ use mathlib.Core.List.{List}
 use lib.IntN.{pos}
 use lib.Ieee as Ieee
 use lib.Ieee.{Float, fin, binary64, ofBits, ofInt}
+use Rattle.ieee.specs.Doubles.{one, whole}
 use Rattle.fade.specs.Fade.{fade}
 use Rattle.verdict.specs.declared.Verdict.the-variants.{RelayRate}
-use Rattle.flow.specs.Flow.{zeros, one, whole, at, each, upto, largest, all, added, opened, fills, refilled-all, credited}
+use Rattle.flow.specs.Flow.{zeros, at, each, upto, largest, all, added, opened, fills, refilled-all, credited}
 use Rattle.verdict.specs.Verdict.{want, covers, suffice, leaves, mark-of, within, above, judged}
 use Rattle.verdict.proofs.Laws.{told}
 use Rattle.check_cases.specs.Cases.{buckets, rate, cost, fresh-want}

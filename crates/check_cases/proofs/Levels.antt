@@ -5,9 +5,10 @@ use Prim.Native.Nat.{ℕ, _<_}
 use lib.ListN.{length, replicate, length-set, getD-replicate}
 use lib.Seq.{getD-set-same}
 use lib.Ieee.{Float, ofBits, ofInt, add, sub, mul, div, lt, le, eq}
-use Rattle.flow.specs.Flow.{nothing, dims}
+use Rattle.ieee.specs.Doubles.{nothing, whole, infinity}
+use Rattle.flow.specs.Flow.{dims}
 use Rattle.wants.specs.Bucket.{bucket-of, reaches, largest}
-use Rattle.wants.specs.Wants.{number, infinity, Hist, counts-of, sums-of, cleared, one-more, plus, added, counted, next, walked, found, level}
+use Rattle.wants.specs.Wants.{Hist, counts-of, sums-of, cleared, one-more, plus, added, counted, next, walked, found, level}
 use Rattle.check_cases.specs.Cases.{of-wants, level-of}
 
 row-counts : List Float → List ℕ → List ℕ
@@ -32,7 +33,7 @@ sums-filled d (w ∷ ws) h l =
 
 -- the level in any dimension is that of one row, filled from nothing
 pub row-level : List Float → Float
-row-level ws = found (walked (row-counts ws (replicate 768 0)) (row-sums ws (replicate 768 nothing)) (number 10) 768)
+row-level ws = found (walked (row-counts ws (replicate 768 0)) (row-sums ws (replicate 768 nothing)) (whole 10) 768)
 
 pub level-filled : (d : ℕ) (ws : List Float) → d < dims → level-of d ws ≡ row-level ws
 unfolding level cleared row-level
@@ -41,15 +42,15 @@ level-filled d ws h =
     counts-filled d ws cleared h ∙ ap (row-counts ws) (getD-replicate dims d (replicate 768 0) [] h) in
     let s : sums-of (of-wants d ws cleared) d ≡ row-sums ws (replicate 768 nothing) =
     sums-filled d ws cleared h ∙ ap (row-sums ws) (getD-replicate dims d (replicate 768 nothing) [] h) in
-    ap (λ (cs : List ℕ). found (walked cs (sums-of (of-wants d ws cleared) d) (number 10) 768)) c
-    ∙ ap (λ (ss : List Float). found (walked (row-counts ws (replicate 768 0)) ss (number 10) 768)) s
+    ap (λ (cs : List ℕ). found (walked cs (sums-of (of-wants d ws cleared) d) (whole 10) 768)) c
+    ∙ ap (λ (ss : List Float). found (walked (row-counts ws (replicate 768 0)) ss (whole 10) 768)) s
 
 -- two wants of which one is cut; two within the rate; none
-pub cut : row-level (number 2 ∷ number 20 ∷ []) ≡ number 8
+pub cut : row-level (whole 2 ∷ whole 20 ∷ []) ≡ whole 8
 unfolding row-level row-counts row-sums one-more plus bucket-of largest reaches counted next walked found lt le eq add sub mul div ofBits ofInt
 cut = refl
 
-pub both-kept : row-level (number 2 ∷ number 3 ∷ []) ≡ infinity
+pub both-kept : row-level (whole 2 ∷ whole 3 ∷ []) ≡ infinity
 unfolding row-level row-counts row-sums one-more plus bucket-of largest reaches counted next walked found lt le eq add sub mul div ofBits ofInt
 both-kept = refl
 

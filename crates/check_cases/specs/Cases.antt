@@ -6,9 +6,10 @@ use Prim.Native.Nat.{ℕ, _^_, _<_}
 use lib.IntN.{pos, negsuc}
 use lib.ListN.{length, replicate}
 use lib.Ieee.{Float, fin}
+use Rattle.ieee.specs.Doubles.{one, whole, infinity}
 use Rattle.fade.specs.Fade.{fade}
 use Rattle.flow.specs.Flow as flow
-use Rattle.flow.specs.Flow.{dims, one, whole, opened, fills}
+use Rattle.flow.specs.Flow.{dims, opened, fills}
 use Rattle.verdict.specs.Verdict.{want, weight-of, met, judged}
 use Rattle.flow.specs.declared.Bucket.{Bucket}
 use Rattle.verdict.specs.declared.Verdict.the-variants.{RelayRate}
@@ -19,7 +20,7 @@ use Rattle.sender.specs.declared.Unit.the-variants.{Group as Grouped, NoAddress
 use Rattle.cut_sources.specs.Counted.{sources, pruned}
 use Rattle.wants.specs.Bucket.{bucket-of}
 use Rattle.wants.specs.Wants as wants
-use Rattle.wants.specs.Wants.{number, infinity, Hist, cleared, level}
+use Rattle.wants.specs.Wants.{Hist, cleared, level}
 
 -- ---- wants
 -- 3 × 2 ^ -1
@@ -33,7 +34,7 @@ of-wants d (w ∷ ws) h = of-wants d ws (wants.added h d w)
 
 -- the level of these wants in a dimension, at rate 10
 abbrev pub level-of : ℕ → List Float → Float
-level-of d ws = level (of-wants d ws cleared) d (number 10)
+level-of d ws = level (of-wants d ws cleared) d (whole 10)
 
 -- ---- counted sources
 -- a source of this total
@@ -67,13 +68,13 @@ pub record Cases : Type 0 where
   pub table-2 : table-of NoAddress ≡ 43
   pub table-3 : table-of Overflow ≡ 43
   -- wants 1, 1.5, 2, 2^48: buckets 0, 9, 16, 767
-  pub bucket-1 : bucket-of (number 1) ≡ 0
+  pub bucket-1 : bucket-of (whole 1) ≡ 0
   pub bucket-1·5 : bucket-of one-and-a-half ≡ 9
-  pub bucket-2 : bucket-of (number 2) ≡ 16
-  pub bucket-2^48 : bucket-of (number (2 ^ 48)) ≡ 767
+  pub bucket-2 : bucket-of (whole 2) ≡ 16
+  pub bucket-2^48 : bucket-of (whole (2 ^ 48)) ≡ 767
   -- rate 10: wants 2, 20 give level 8; 2, 3 infinite; none infinite; in every dimension
-  pub level-2-20 : (d : ℕ) → d < dims → level-of d (number 2 ∷ number 20 ∷ []) ≡ number 8
-  pub level-2-3 : (d : ℕ) → d < dims → level-of d (number 2 ∷ number 3 ∷ []) ≡ infinity
+  pub level-2-20 : (d : ℕ) → d < dims → level-of d (whole 2 ∷ whole 20 ∷ []) ≡ whole 8
+  pub level-2-3 : (d : ℕ) → d < dims → level-of d (whole 2 ∷ whole 3 ∷ []) ≡ infinity
   pub level-none : (d : ℕ) → d < dims → level-of d [] ≡ infinity
   -- five totals 1, 1, 2, 3, 4, keeping four: 2, 3, 4 stay; in another order of arrival too; all equal: none
   pub totals : Stay (1 ∷ 1 ∷ 2 ∷ 3 ∷ 4 ∷ []) (2 ∷ 3 ∷ 4 ∷ []) 2

@@ -4,11 +4,11 @@ use mathlib.Core.Bool.{Bool, false, cond}
 use mathlib.Core.List.{List}
 use lib.Dec.{eqb}
 use lib.ListN.{length, getD}
-use lib.Ieee as Ieee
-use lib.Ieee.{Float, binary64}
+use lib.Ieee.{Float}
+use Rattle.ieee.specs.Doubles.{_⊖_, nothing}
 use Rattle.ieee.specs.Extremes.{most}
 use Rattle.flow.specs.Flow as flow
-use Rattle.flow.specs.Flow.{nothing, at, upto, zeros, dims}
+use Rattle.flow.specs.Flow.{at, upto, zeros, dims}
 use Rattle.sender.specs.declared.Unit as unit
 use Rattle.sender.specs.declared.Name.{Name}
 use Rattle.sender.specs.Sender as sender
@@ -30,7 +30,7 @@ hands-back rate c = cond (is-unbounded rate) false (eqb (index-of c) 0)
 
 -- what was admitted, less this cost, down to 0
 unfoldable pub lowered : List Float → List Float → List Float
-lowered xs cost = upto (λ (d : ℕ). most (Ieee.sub binary64 (at xs d) (at cost d)) nothing) dims zeros
+lowered xs cost = upto (λ (d : ℕ). most (at xs d ⊖ at cost d) nothing) dims zeros
 
 -- tokens go back up to the burst; the clock stays
 unfoldable pub flowed-back : Flow → List Float → Flow

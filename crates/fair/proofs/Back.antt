@@ -7,8 +7,9 @@ use lib.Ieee.{Float, nan}
 use lib.ListN.{length, getD, set, length-set, replicate, length-replicate}
 use lib.Seq.{getD-set-same, getD-set-other, ext-getD}
 use borrow.Author.Tests.{lt-ltb, le-ltb}
+use Rattle.ieee.specs.Doubles.{nothing}
 use Rattle.flow.specs.declared.Use.{Use}
-use Rattle.flow.specs.Flow.{at, nothing, dims}
+use Rattle.flow.specs.Flow.{at, dims}
 use Rattle.flow.proofs.Parts.{upto-at, upto-length}
 use Rattle.sender.specs.declared.Words.{Words}
 use Rattle.sender.specs.declared.Name.{Name}

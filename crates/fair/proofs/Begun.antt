@@ -8,12 +8,13 @@ use mathlib.Core.List.{List, []}
 use lib.Dec.{eqb}
 use lib.ListN.{length, getD, replicate, length-replicate}
 use lib.Ieee.{Float, nan, binary64, ofBits, ofInt}
+use Rattle.ieee.specs.Doubles.{nothing, whole}
 use Rattle.ieee.specs.Units.{power, units, Amount}
 use Rattle.ieee.proofs.Power.{power-is, power-times}
 use Rattle.ieee.proofs.Laws.{int-is}
 use Rattle.flow.specs.Flow as flow
 use Rattle.ieee.specs.Extremes.{least}
-use Rattle.flow.specs.Flow.{dims, nothing, whole, at, bucket-at}
+use Rattle.flow.specs.Flow.{dims, at, bucket-at}
 use Rattle.flow.specs.declared.Bucket.{Bucket}
 use Rattle.flow.proofs.Parts.{upto-at, upto-length, buckets-at}
 use Rattle.store.specs.Store as store

@@ -6,13 +6,14 @@ use mathlib.Core.List.{List}
 use lib.ListN.{length, replicate, length-replicate}
 use lib.Ieee as Ieee
 use lib.Ieee.{Float}
+use Rattle.ieee.specs.Doubles.{nothing, whole}
 use Rattle.flow.specs.declared.Bucket.{Bucket}
 use Rattle.flow.specs.declared.Use.{Use}
 use Rattle.verdict.specs.declared.Outcome.{Outcome}
 use Rattle.verdict.specs.declared.Verdict.{Verdict}
 use Rattle.flow.specs.Flow as flow
 use Rattle.verdict.specs.Verdict as verdicts
-use Rattle.flow.specs.Flow.{dims, nothing, whole, at, bucket-at, all}
+use Rattle.flow.specs.Flow.{dims, at, bucket-at, all}
 use Rattle.flow.proofs.Parts.{upto-length, each-at, buckets-at, all-same}
 use Rattle.fair.specs.Tokens.{paid}
 use Rattle.fair.specs.Demand.{Batch, Here, present, State, found, priced, filled, verdict-here, is-admitted, settled, does}

@@ -8,8 +8,9 @@ use lib.Dec.{T, eqb, ltb}
 use lib.ListN.{length, getD}
 use lib.Ieee as Ieee
 use lib.Ieee.{Float}
+use Rattle.ieee.specs.Doubles.{one}
 use Rattle.ieee.specs.Units.{power, units}
-use Rattle.flow.specs.Flow.{dims, one, at}
+use Rattle.flow.specs.Flow.{dims, at}
 use Rattle.flow.specs.declared.Use.{Use}
 use Rattle.verdict.specs.declared.Verdict.{Verdict}
 use Rattle.verdict.specs.declared.Verdict.the-variants as verdict

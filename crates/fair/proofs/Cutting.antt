@@ -9,8 +9,9 @@ use lib.Dec.{eqb, ltb}
 use lib.ListN.{length, getD}
 use lib.Ieee.{Float}
 use borrow.Author.Tests.{eqb-true, eq-eqb, ltb-false}
+use Rattle.ieee.specs.Doubles.{whole}
 use Rattle.flow.specs.Flow as flow
-use Rattle.flow.specs.Flow.{dims, at, bucket-at, whole}
+use Rattle.flow.specs.Flow.{dims, at, bucket-at}
 use Rattle.flow.specs.declared.Bucket.{Bucket}
 use Rattle.flow.specs.declared.Use.{Use}
 use Rattle.sender.specs.declared.Unit as unit

@@ -7,6 +7,7 @@ use lib.Dec.{T, ltb, lit<}
 use lib.ListN.{length, replicate, length-replicate, getD-replicate}
 use lib.Ieee as Ieee
 use lib.Ieee.{Float, nan}
+use Rattle.ieee.specs.Doubles.{one, nothing, whole}
 use Rattle.ieee.specs.Units.{power}
 use Rattle.flow.specs.declared.Bucket.{Bucket}
 use Rattle.flow.specs.declared.Use.{Use}
@@ -14,7 +15,7 @@ use Rattle.verdict.specs.declared.Verdict.{Verdict}
 use Rattle.verdict.specs.declared.Verdict.the-variants.{Admitted, OverShare, RelayRate}
 use Rattle.flow.specs.Flow as flow
 use Rattle.verdict.specs.Verdict as verdicts
-use Rattle.flow.specs.Flow.{dims, one, nothing, whole, at}
+use Rattle.flow.specs.Flow.{dims, at}
 use Rattle.flow.proofs.Parts.{upto-length, each-at, all-at, all-of}
 use Rattle.fair.specs.Runs.{sum, highest, lowest, clock, back, Each}
 use Rattle.fair.specs.Bounds.{stale-after, most-depth, least-depth, parts}

@@ -10,8 +10,9 @@ use lib.ListN.{length, getD, set, length-set, length-replicate}
 use lib.Seq.{getD-set-same, getD-set-other}
 use lib.Ieee.{Float}
 use borrow.Author.Tests.{ltb-true, ltb-false, lt-ltb, le-ltb}
+use Rattle.ieee.specs.Doubles.{nothing}
 use Rattle.flow.specs.Flow as flow
-use Rattle.flow.specs.Flow.{nothing, dims}
+use Rattle.flow.specs.Flow.{dims}
 use Rattle.flow.specs.declared.Bucket.{Bucket}
 use Rattle.flow.specs.declared.Use.{Use}
 use Rattle.sender.specs.declared.Name as sender-name

@@ -6,11 +6,11 @@ use mathlib.Core.List.{List, [], _∷_}
 use lib.Dec.{eqb}
 use lib.Ieee as Ieee
 use lib.Ieee.{Float}
+use Rattle.ieee.specs.Doubles.{whole, one, half}
 use Rattle.verdict.specs.declared.Verdict.{Verdict}
 use Rattle.verdict.specs.declared.Verdict.the-variants.{Admitted, OverShare, RelayRate}
 use Rattle.flow.specs.Flow as flow
 use Rattle.verdict.specs.Verdict as verdicts
-use Rattle.flow.specs.Flow.{whole, one, half}
 use Rattle.fair.specs.Runs.{clock}
 use Rattle.fair.specs.Demand.{Batch}
 use Rattle.fair.specs.Store.{Call, Judge, verdict, store}

@@ -9,13 +9,13 @@ use lib.IntN.{ℤ}
 use lib.Ieee.{Float, nan, inf, fin, binary64, fits, lt, ne, eq, ofBits, up, down}
 use lib.Ieee.Fits.{down-pos}
 use borrow.Author.Tests.{lt-ltb, le-leb}
+use Rattle.ieee.specs.Doubles.{whole, one, nothing}
 use Rattle.ieee.specs.Units.{power, units, Amount}
 use Rattle.ieee.proofs.Power.{power-is}
 use Rattle.ieee.proofs.Value.{one-is, zero-is, amount-value}
 use Rattle.ieee.proofs.Order.{self, lt-inf, le-is}
 use Rattle.ieee.proofs.Laws.{int-is}
 use Rattle.ieee.specs.Extremes.{least, most}
-use Rattle.flow.specs.Flow.{whole, one, nothing}
 use Rattle.ieee.proofs.Extremes.{least-is, most-is}
 use Rattle.fair.specs.Calls.{Valued}
 

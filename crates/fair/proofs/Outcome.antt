@@ -6,6 +6,7 @@ use mathlib.Core.List.{List}
 use lib.ListN.{length, getD, replicate, length-replicate}
 use lib.Ieee as Ieee
 use lib.Ieee.{Float, binary64}
+use Rattle.ieee.specs.Doubles.{nothing, whole}
 use Rattle.flow.specs.declared.Bucket.{Bucket}
 use Rattle.flow.specs.declared.Use.{Use}
 use Rattle.verdict.specs.declared.Outcome.{Outcome}
@@ -14,7 +15,7 @@ use Rattle.ieee.specs.Extremes.{most}
 use Rattle.fade.specs.Fade.{fade}
 use Rattle.flow.specs.Flow as flow
 use Rattle.verdict.specs.Verdict as verdicts
-use Rattle.flow.specs.Flow.{dims, nothing, whole, at, bucket-at}
+use Rattle.flow.specs.Flow.{dims, at, bucket-at}
 use Rattle.flow.proofs.Parts.{upto-length, each-at, buckets-at}
 use Rattle.fair.specs.Given as shed
 use Rattle.fair.specs.Calls as calls

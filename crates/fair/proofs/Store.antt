@@ -7,12 +7,13 @@ use mathlib.Core.List.{List, [], _∷_}
 use lib.Dec.{T}
 use lib.Ieee as Ieee
 use lib.Ieee.{Float}
+use Rattle.ieee.specs.Doubles.{one}
 use Rattle.ieee.specs.Units.{power, units}
 use Rattle.flow.specs.declared.Use.{Use}
 use Rattle.verdict.specs.declared.Verdict.{Verdict}
 use Rattle.verdict.specs.declared.Verdict.the-variants.{OverShare}
 use Rattle.flow.specs.Flow as flow
-use Rattle.flow.specs.Flow.{dims, one, at}
+use Rattle.flow.specs.Flow.{dims, at}
 use Rattle.fair.specs.Runs.{sum, highest, lowest, clock, back, Each}
 use Rattle.fair.specs.Bounds.{most-depth, least-depth, parts}
 use Rattle.fair.specs.Tokens.{burst}

@@ -11,8 +11,9 @@ use lib.Ieee as Ieee
 use lib.Ieee.{Float, binary64, nan}
 use lib.Ieee.Fits.{mul-fits}
 use borrow.Author.Tests.{ltb-true, lt-ltb}
+use Rattle.ieee.specs.Doubles.{one, nothing}
 use Rattle.ieee.specs.Extremes.{most}
-use Rattle.flow.specs.Flow.{dims, at, bucket-at, one, nothing}
+use Rattle.flow.specs.Flow.{dims, at, bucket-at}
 use Rattle.flow.proofs.Parts.{upto-at}
 use Rattle.store.specs.Store.{Rows}
 use Rattle.wants.specs.Wants as wants

@@ -10,9 +10,10 @@ use lib.ListN.{length, getD}
 use lib.Ieee as Ieee
 use lib.Ieee.{Float}
 use lib.Ieee.Exact.{HasValue}
+use Rattle.ieee.specs.Doubles.{_⊴_, _⊲_, one, nothing}
 use Rattle.ieee.specs.Units.{power, units}
 use Rattle.verdict.specs.Verdict as verdicts
-use Rattle.flow.specs.Flow.{dims, one, nothing, at, is-fresh}
+use Rattle.flow.specs.Flow.{dims, at, is-fresh}
 use Rattle.flow.specs.declared.Use.{Use}
 use Rattle.sender.specs.declared.Unit as unit
 use Rattle.sender.specs.declared.Name.{Name}
@@ -253,8 +254,8 @@ Present r k es = Since (by (judged-on r)) (present-after r) k es
 
 -- ---- a double that has a value to count: finite, not negative, and its exact value is `units` of it, over 2 ^ 1074 (the library's `HasValue`: no not-a-number, no infinity, the sign bit clear, and this quotient)
 pub record Valued (x : Float) : Type 0 where
-  pub finite : Ieee.lt x (Ieee.inf false) ≡ true
-  pub not-negative : Ieee.le nothing x ≡ true
+  pub finite : x ⊲ Ieee.inf false ≡ true
+  pub not-negative : nothing ⊴ x ≡ true
   pub exact : HasValue x false (units x) (power 1074)
 
 -- ---- THE DEMAND, of every list of calls h, every run of n = suc k calls, every dimension, from the state `first` that a start at these rates left.
@@ -270,7 +271,7 @@ pub record Demand (rate ceiling : List ℕ) (first : State) : Type 0 where
       ≤ parts * ((most-depth + span (events first h) k) * highest (by (fill-on r d)) (suc k) (events first h)) + (1000 * parts * sum (by (handed-on r d)) (suc k) (events first h) + 1000 * suc k) * power 1074
   -- "A sender's want is within the level when the verdict takes it by the rule "want up to 1"": such a batch is not answered OverShare, if in each dimension and every run
   -- from a judgement of its present record to this batch: cost tried ≤ (4 + T) * the record's lowest fill - n / 256
-  pub spared : (h : List Call) (u : unit.Unit) (cost : List ℕ) (t : ℕ) → refused (state first h) (Judge u cost t) ≡ false → T (Ieee.le (want (state first h) u cost t) one)
+  pub spared : (h : List Call) (u : unit.Unit) (cost : List ℕ) (t : ℕ) → refused (state first h) (Judge u cost t) ≡ false → T (want (state first h) u cost t ⊴ one)
       → ((d : ℕ) → d < dims → (k : ℕ) → Present (key (state first h) u (now (state first h) t)) k (events first (Judge u cost t ∷ h))
       → (1000 * parts * sum (by (tried-on (key (state first h) u (now (state first h) t)) d)) (suc k) (events first (Judge u cost t ∷ h)) + 1000 * suc k) * power 1074
       ≤ parts * ((least-depth + span (events first (Judge u cost t ∷ h)) k)

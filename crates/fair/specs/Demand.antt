@@ -10,8 +10,8 @@ use mathlib.Core.Bool.{Bool, true, false, cond}
 use mathlib.Core.List.{List, [], _∷_}
 use lib.Dec.{T, ltb}
 use lib.ListN.{replicate}
-use lib.Ieee as Ieee
 use lib.Ieee.{Float}
+use Rattle.ieee.specs.Doubles.{_⊴_, one, nothing, whole}
 use Rattle.ieee.specs.Units.{power, units, Amount}
 use Rattle.flow.specs.declared.Bucket.{Bucket}
 use Rattle.flow.specs.declared.Use.{Use}
@@ -19,7 +19,7 @@ use Rattle.verdict.specs.declared.Verdict.{Verdict}
 use Rattle.verdict.specs.declared.Verdict.the-variants.{OverShare}
 use Rattle.flow.specs.Flow as flow
 use Rattle.verdict.specs.Verdict as verdicts
-use Rattle.flow.specs.Flow.{dims, one, nothing, whole, at, each, all}
+use Rattle.flow.specs.Flow.{dims, at, each, all}
 use Rattle.fair.specs.Runs.{sum, highest, lowest, Since, clock, back, Each}
 use Rattle.fair.specs.Bounds.{stale-after, most-depth, least-depth, parts}
 use Rattle.fair.specs.Tokens.{burst, paid}
@@ -85,7 +85,7 @@ abbrev pub credited : State → ℕ → Batch → List Float → Use
 credited s clock b fill = flow.credited (found (s .used) (max (b .stamp) clock)) (max (b .stamp) clock) fill
 
 abbrev pub tokens-hold : State → ℕ → Batch → Bool
-tokens-hold s clock b = all (λ (d : ℕ). Ieee.le (whole (b .cost d)) (filled s clock b d .tokens)) dims
+tokens-hold s clock b = all (λ (d : ℕ). whole (b .cost d) ⊴ filled s clock b d .tokens) dims
 
 abbrev pub credit-holds : State → ℕ → Batch → List Float → Bool
 credit-holds s clock b fill = verdicts.covers (credited s clock b fill .credit) (priced (b .cost))
@@ -210,7 +210,7 @@ module _ (rate ceiling : ℕ → ℕ) (overflow : Bool) where
     pub share : (h : List Deed) → Each Lawful h → (d : ℕ) → d < dims → (k : ℕ)
         → 1000 * parts * sum (admitted-here d) (suc k) h * power 1074 ≤ parts * ((most-depth + span h k) * highest (fill-here d) (suc k) h) + (1000 * parts * sum (handed-here d) (suc k) h + 1000 * suc k) * power 1074
     -- a sender whose want is within the level is not called over share, if in each dimension and every run from a judgement of the present record to this batch: tried ≤ (4 + T) * lowest fill - n / 256
-    pub spared : (h : List Deed) → Each Lawful h → (b : Batch) (fill : List Float) → Lawful (Here b fill) → T (Ieee.le (b .want) one)
+    pub spared : (h : List Deed) → Each Lawful h → (b : Batch) (fill : List Float) → Lawful (Here b fill) → T (b .want ⊴ one)
         → ((d : ℕ) → d < dims → (k : ℕ) → Present k (Here b fill ∷ h)
         → (1000 * parts * sum (tried-here d) (suc k) (Here b fill ∷ h) + 1000 * suc k) * power 1074 ≤ parts * ((least-depth + span (Here b fill ∷ h) k) * lowest here (fill-here d) k (Here b fill ∷ h)))
         → verdict-here (state h) (clock stamp h) b fill ≡ OverShare → ⊥

@@ -6,15 +6,15 @@ use mathlib.Core.Bool.{Bool, true, false, _&&_, cond}
 use mathlib.Core.List.{List, [], _∷_}
 use lib.Dec.{T, ltb}
 use lib.ListN.{length}
-use lib.Ieee as Ieee
 use lib.Ieee.{Float}
+use Rattle.ieee.specs.Doubles.{_⊴_, one}
 use Rattle.ieee.specs.Units.{power, units, Amount}
 use Rattle.flow.specs.declared.Bucket.{Bucket}
 use Rattle.flow.specs.declared.Use.{Use}
 use Rattle.verdict.specs.declared.Verdict.{Verdict}
 use Rattle.verdict.specs.declared.Verdict.the-variants.{OverShare}
 use Rattle.flow.specs.Flow as flow
-use Rattle.flow.specs.Flow.{dims, one, at}
+use Rattle.flow.specs.Flow.{dims, at}
 use Rattle.fair.specs.Runs.{sum, highest, lowest, Since, clock, back, Each}
 use Rattle.fair.specs.Bounds.{stale-after, most-depth, least-depth, parts}
 use Rattle.fair.specs.Tokens.{burst}
@@ -179,7 +179,7 @@ module _ (Name : Type 0) (same : Name → Name → Bool) (shares : Name → Bool
       pub share : (r : Key) (h : List Call) → Each Lawful h → (d : ℕ) → d < dims → (k : ℕ)
           → 1000 * parts * sum (admitted-on r d) (suc k) h * power 1074 ≤ parts * ((most-depth + span h k) * highest (fill-on r d) (suc k) h) + (1000 * parts * sum (handed-on r d) (suc k) h + 1000 * suc k) * power 1074
       -- a sender whose want is within the level is not called over share, if in each dimension and every run from a judgement of its present record to this batch: tried on it ≤ (4 + T) * its lowest fill - n / 256
-      pub spared : (u : Name) (b : Batch) (fill : List Float) (scanned : Row → Bool) (h : List Call) → Each Lawful h → Lawful (Judge u b fill scanned) → T (Ieee.le (b .want) one)
+      pub spared : (u : Name) (b : Batch) (fill : List Float) (scanned : Row → Bool) (h : List Call) → Each Lawful h → Lawful (Judge u b fill scanned) → T (b .want ⊴ one)
           → ((d : ℕ) → d < dims → (k : ℕ) → Present (key u h) k (Judge u b fill scanned ∷ h)
           → (1000 * parts * sum (tried-on (key u h) d) (suc k) (Judge u b fill scanned ∷ h) + 1000 * suc k) * power 1074
           ≤ parts * ((least-depth + span (Judge u b fill scanned ∷ h) k) * lowest (judged-on (key u h)) (fill-on (key u h) d) k (Judge u b fill scanned ∷ h)))

@@ -8,8 +8,9 @@ use mathlib.Core.List.{List, [], _∷_}
 use lib.Dec.{T}
 use lib.Ieee as Ieee
 use lib.ListN.{length, getD}
+use Rattle.ieee.specs.Doubles.{one}
 use Rattle.ieee.specs.Units.{power}
-use Rattle.flow.specs.Flow.{dims, one}
+use Rattle.flow.specs.Flow.{dims}
 use Rattle.sender.specs.declared.Unit as unit
 use Rattle.head.specs.declared.Answer.{Answer}
 use Rattle.head.specs.declared.Answer.the-variants as answer

@@ -4,10 +4,10 @@ use mathlib.Core.Path.{_≡_}
 use mathlib.Core.Bool.{Bool, true}
 use mathlib.Core.List.{List, _∷_}
 use lib.Dec.{T}
-use lib.Ieee as Ieee
 use lib.ListN.{getD}
+use Rattle.ieee.specs.Doubles.{_⊴_, one}
 use Rattle.ieee.specs.Units.{power}
-use Rattle.flow.specs.Flow.{dims, one}
+use Rattle.flow.specs.Flow.{dims}
 use Rattle.sender.specs.declared.Unit as unit
 use Rattle.head.specs.declared.Shedder.{Shedder}
 use Rattle.head.specs.declared.Begin.the-variants as begin
@@ -53,4 +53,4 @@ Within r es = (d : ℕ) → d < dims → (k : ℕ) → Present r k es
 abbrev pub Spared : State → Run → Bool → Type 0
 Spared first x over = (rate ceiling : List ℕ) → Begun rate ceiling first → over ≡ true
     → (s : State) (u : unit.Unit) (cost : List ℕ) (t : ℕ) (es : List Event) → events first (x .list) ≡ event s (Judge u cost t) ∷ es
-    → T (Ieee.le (want s u cost t) one) → Within (key s u (now s t)) (events first (x .list)) → ⊥
+    → T (want s u cost t ⊴ one) → Within (key s u (now s t)) (events first (x .list)) → ⊥

@@ -6,12 +6,12 @@ use native.Mathlib.Omega.{arith}
 use native.Mathlib.Decide.{decLe}
 use lib.Dec.{lit<, lit≤}
 use lib.Ieee.{Float, binary64, sub}
+use Rattle.ieee.specs.Doubles.{whole}
 use Rattle.ieee.specs.Units.{power, units, Amount, Is, Digits, OnGrid}
 use Rattle.ieee.proofs.Power.{power-pos, power-lt, power-add, grid-finer}
 use Rattle.ieee.proofs.Value.{amount-digits}
 use Rattle.ieee.proofs.Order.{recount}
 use Rattle.ieee.proofs.Laws.{sub-exact, int-is}
-use Rattle.flow.specs.Flow.{whole}
 
 pub sub-whole : (x : Float) (n : ℕ) → Amount x → units x ≤ power 1120 → n * power 1074 ≤ units x → Is (sub binary64 x (whole n)) (units x - n * power 1074)
 sub-whole x n a small h = go (amount-digits x a)

@@ -6,10 +6,11 @@ use native.Mathlib.Omega.{arith}
 use lib.Dec.{lit≤}
 use lib.Ieee as Ieee
 use lib.Ieee.{Float, binary64}
+use Rattle.ieee.specs.Doubles.{whole}
 use Rattle.ieee.specs.Units.{power, units, Is, Within}
 use Rattle.ieee.proofs.Power.{power-is, power-mono, power-suc, power-times}
 use Rattle.ieee.proofs.Laws.{int-is, add-within}
-use Rattle.flow.specs.Flow.{whole, at, credit-back}
+use Rattle.flow.specs.Flow.{at, credit-back}
 use Rattle.flow.specs.Laws.{Takes, Gives}
 use Rattle.flow.proofs.Parts.{each-at}
 use Rattle.flow.proofs.Difference.{sub-whole}

@@ -9,9 +9,10 @@ use mathlib.Core.List.{List}
 use lib.ListN.{length, getD, set, length-set}
 use lib.Seq.{getD-set-same, getD-set-other}
 use lib.Ieee.{Float, nan}
+use Rattle.ieee.specs.Doubles.{nothing}
 use Rattle.flow.specs.declared.Bucket.{Bucket}
 use Rattle.ieee.specs.Extremes.{most}
-use Rattle.flow.specs.Flow.{dims, at, each, bucket-at, upto, largest, all, nothing}
+use Rattle.flow.specs.Flow.{dims, at, each, bucket-at, upto, largest, all}
 
 -- ---- a turn of a loop
 pub upto-none : {A : Type 0} (f : ℕ → A) (xs : List A) → upto f 0 xs ≡ xs

@@ -8,6 +8,7 @@ use lib.IntN.{pos}
 use lib.ListN.{getD, set, replicate}
 use lib.Ieee as Ieee
 use lib.Ieee.{Float, binary64, ofBits, ofInt}
+use Rattle.ieee.specs.Doubles.{_⊕_, _⊖_, _⊗_, _⊘_, nothing, one, two, four, thousand, whole}
 use Rattle.ieee.specs.Extremes.{least, most}
 use Rattle.fade.specs.Fade.{fade}
 use Rattle.flow.specs.declared.Bucket.{Bucket}
@@ -16,52 +17,29 @@ use Rattle.flow.specs.declared.Use.{Use}
 abbrev pub dims : ℕ
 dims = 2
 
--- ---- numbers
-abbrev pub nothing : Float
-nothing = ofBits binary64 0
-
-abbrev pub one : Float
-one = ofBits binary64 0x3ff0_0000_0000_0000
-
-abbrev pub half : Float
-half = ofBits binary64 0x3fe0_0000_0000_0000
-
-abbrev pub two : Float
-two = ofBits binary64 0x4000_0000_0000_0000
-
-abbrev pub four : Float
-four = ofBits binary64 0x4010_0000_0000_0000
-
-abbrev pub thousand : Float
-thousand = ofBits binary64 0x408f_4000_0000_0000
-
--- a whole number as a double
-abbrev pub whole : ℕ → Float
-whole n = ofInt binary64 (pos n)
-
 -- ---- the bucket
 abbrev pub burst-of : ℕ → ℕ → Float
 burst-of rate ceiling = most (most (whole rate) (whole (min ceiling (2 ^ 40)))) one
 
 abbrev pub opened : ℕ → ℕ → Bucket
-opened rate ceiling = record { tokens = burst-of rate ceiling; burst = burst-of rate ceiling; «rate_per_ms» = Ieee.div binary64 (whole rate) thousand }
+opened rate ceiling = record { tokens = burst-of rate ceiling; burst = burst-of rate ceiling; «rate_per_ms» = whole rate ⊘ thousand }
 
 abbrev pub refilled : Bucket → ℕ → Bucket
 refilled b elapsed = record {
-  tokens = least (Ieee.add binary64 (b .tokens) (Ieee.mul binary64 (whole elapsed) (b .«rate_per_ms»))) (b .burst);
+  tokens = least (b .tokens ⊕ whole elapsed ⊗ b .«rate_per_ms») (b .burst);
   burst = b .burst;
   «rate_per_ms» = b .«rate_per_ms»;
 }
 
 abbrev pub spent : Bucket → Float → Bucket
-spent b cost = record { tokens = Ieee.sub binary64 (b .tokens) cost; burst = b .burst; «rate_per_ms» = b .«rate_per_ms» }
+spent b cost = record { tokens = b .tokens ⊖ cost; burst = b .burst; «rate_per_ms» = b .«rate_per_ms» }
 
 abbrev pub returned : Bucket → Float → Bucket
-returned b cost = record { tokens = least (Ieee.add binary64 (b .tokens) cost) (b .burst); burst = b .burst; «rate_per_ms» = b .«rate_per_ms» }
+returned b cost = record { tokens = least (b .tokens ⊕ cost) (b .burst); burst = b .burst; «rate_per_ms» = b .«rate_per_ms» }
 
 -- ---- one dimension of a unit's use
 abbrev pub seconds : ℕ → Float
-seconds ms = Ieee.div binary64 (whole ms) thousand
+seconds ms = whole ms ⊘ thousand
 
 -- a mark of any word but 0 says that nothing was judged yet
 abbrev pub is-fresh : ℕ → Bool
@@ -70,11 +48,11 @@ is-fresh mark = not (eqb mark 0)
 -- full for a fresh unit, else what it held, filled for `idle` milliseconds, and no more than full
 abbrev pub credit-of : Bool → Float → Float → ℕ → Float
 credit-of fresh credit fill idle =
-    cond fresh (Ieee.mul binary64 fill four) (least (Ieee.add binary64 credit (Ieee.mul binary64 fill (seconds idle))) (Ieee.mul binary64 fill four))
+    cond fresh (fill ⊗ four) (least (credit ⊕ fill ⊗ seconds idle) (fill ⊗ four))
 
 -- after a hand-back: no cap until the next judgement
 abbrev pub credit-back : Float → Float → Float
-credit-back credit cost = Ieee.add binary64 credit cost
+credit-back credit cost = credit ⊕ cost
 
 -- ---- over the dimensions: the parts below n anew, each by f
 unfoldable pub upto : {A : Type 0} → (ℕ → A) → ℕ → List A → List A
@@ -126,7 +104,7 @@ credited u now fill = holding u (each (λ (d : ℕ). credit-of (is-fresh (u .fre
 -- the sums, faded for the time since the last judgement
 abbrev pub fade-to : Use → ℕ → Use
 fade-to u now = record {
-  attempted = each (λ (d : ℕ). Ieee.mul binary64 (at (u .attempted) d) (fade (now - u .«at_ms»))) (u .attempted);
+  attempted = each (λ (d : ℕ). at (u .attempted) d ⊗ fade (now - u .«at_ms»)) (u .attempted);
   credit = u .credit;
   «at_ms» = max (u .«at_ms») now;
   fresh = u .fresh;
@@ -135,7 +113,7 @@ fade-to u now = record {
 -- with this batch in the sums; fresh no more
 abbrev pub tried : Use → List Float → Use
 tried u cost = record {
-  attempted = each (λ (d : ℕ). Ieee.add binary64 (at (u .attempted) d) (at cost d)) (u .attempted);
+  attempted = each (λ (d : ℕ). at (u .attempted) d ⊕ at cost d) (u .attempted);
   credit = u .credit;
   «at_ms» = u .«at_ms»;
   fresh = 0;
@@ -143,14 +121,14 @@ tried u cost = record {
 
 -- what a unit attempts a second: its sums faded to `t`, over the window of 2 seconds
 unfoldable pub rates : Use → ℕ → List Float
-rates u t = upto (λ (d : ℕ). Ieee.div binary64 (Ieee.mul binary64 (at (u .attempted) d) (fade (t - u .«at_ms»))) two) dims zeros
+rates u t = upto (λ (d : ℕ). at (u .attempted) d ⊗ fade (t - u .«at_ms») ⊘ two) dims zeros
 
 abbrev pub charged : Use → List Float → Use
-charged u cost = holding u (each (λ (d : ℕ). Ieee.sub binary64 (at (u .credit) d) (at cost d)) (u .credit))
+charged u cost = holding u (each (λ (d : ℕ). at (u .credit) d ⊖ at cost d) (u .credit))
 
 abbrev pub handed-back : Use → List Float → Use
 handed-back u cost = record {
-  attempted = each (λ (d : ℕ). most (Ieee.sub binary64 (at (u .attempted) d) (at cost d)) nothing) (u .attempted);
+  attempted = each (λ (d : ℕ). most (at (u .attempted) d ⊖ at cost d) nothing) (u .attempted);
   credit = each (λ (d : ℕ). credit-back (at (u .credit) d) (at cost d)) (u .credit);
   «at_ms» = u .«at_ms»;
   fresh = u .fresh;

@@ -5,10 +5,11 @@ use Prim.Native.Nat.{ℕ, _+_, _-_, _*_, _^_, _≤_, _<_}
 use mathlib.Core.List.{List}
 use lib.ListN.{length}
 use lib.Ieee.{Float}
+use Rattle.ieee.specs.Doubles.{whole}
 use Rattle.ieee.specs.Units.{power, units, Amount, Is, Within}
 use Rattle.flow.specs.declared.Bucket.{Bucket}
 use Rattle.flow.specs.declared.Use.{Use}
-use Rattle.flow.specs.Flow.{dims, whole, at, spent, charged, handed-back}
+use Rattle.flow.specs.Flow.{dims, at, spent, charged, handed-back}
 
 -- a whole cost n that tokens, or a credit, hold is taken off exactly, from amounts up to 2 ^ 46
 pub record Takes : Type 0 where

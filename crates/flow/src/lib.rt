@@ -1,6 +1,7 @@
 // The float core of a judgement, by value: the token bucket and a unit's use. The want and the decision are in `verdict`. No store is known here.
 ghost use mathlib.Core.Path.{_≡_};
 ghost use Prim.Native.Nat.{_^_, _-_, min, max};
+ghost use Rattle.ieee.specs.Doubles.{whole};
 ghost use Rattle.flow.specs.Flow as flow;
 
 // Receptions and bytes. Every loop, array and law goes over this number.
@@ -27,14 +28,14 @@ pub struct Use {
 
 // The double nearest to a whole number, the number itself up to 2^53. It is defined on every number, so that no bound is asked.
 pub fn whole(n: u64) -> f64
-    ensures { λ r. ⌜ r ≡ flow.whole n ⌝ }
+    ensures { λ r. ⌜ r ≡ whole n ⌝ }
 {
     std::num::nearest_u64_to_f64(n)
 }
 
 // A rate or a cost as a double. The unbounded rate is the constant 2^64, the double nearest to it.
 pub fn per_second(rate: u64) -> f64
-    ensures { λ r. ⌜ r ≡ flow.whole rate ⌝ }
+    ensures { λ r. ⌜ r ≡ whole rate ⌝ }
 {
     if rate == 18446744073709551615 {
         18446744073709551616.0

@@ -4,10 +4,10 @@ use Prim.Native.Nat.{ℕ}
 use mathlib.Core.List.{List}
 use lib.Dec.{eqb}
 use lib.ListN.{getD, replicate}
-use lib.Ieee as Ieee
 use lib.Ieee.{Float, binary64, ofBits}
+use Rattle.ieee.specs.Doubles.{_⊘_, nothing, one}
 use Rattle.flow.specs.Flow as flow
-use Rattle.flow.specs.Flow.{nothing, one, at, upto, zeros, numbers, dims}
+use Rattle.flow.specs.Flow.{at, upto, zeros, numbers, dims}
 use Rattle.ieee.specs.Extremes.{least}
 use Rattle.flow.specs.declared.Bucket.{Bucket}
 use Rattle.wants.specs.Wants as wants
@@ -34,7 +34,7 @@ opening rate ceiling units counted = record {
     «at_ms» = 0;
     «began_ms» = 0;
     trim = replicate dims one;
-    «open» = replicate dims (Ieee.div binary64 one nothing);
+    «open» = replicate dims (one ⊘ nothing);
     «read_ms» = 0;
     «read_admitted» = zeros;
   };

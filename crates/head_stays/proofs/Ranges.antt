@@ -10,6 +10,7 @@ use lib.ListN.{length, getD, getD-replicate, length-replicate}
 use lib.Ieee as Ieee
 use lib.Ieee.{Float, nan, binary64, ofBits, ofInt, le}
 use borrow.Author.Tests.{eqb-true, eq-eqb, leb-true, le-leb}
+use Rattle.ieee.specs.Doubles.{nothing, one, whole}
 use Rattle.ieee.specs.Units.{power, units}
 use Rattle.ieee.specs.Extremes.{least}
 use Rattle.ieee.proofs.Power.{power-is}
@@ -17,7 +18,7 @@ use Rattle.ieee.proofs.Value.{one-is}
 use Rattle.ieee.proofs.Order.{le-is}
 use Rattle.ieee.proofs.Laws.{int-is}
 use Rattle.ieee.proofs.Extremes.{least-is}
-use Rattle.flow.specs.Flow.{nothing, one, at, upto, zeros, whole, numbers, dims}
+use Rattle.flow.specs.Flow.{at, upto, zeros, numbers, dims}
 use Rattle.flow.proofs.Parts.{upto-at, all-at}
 use Rattle.verdict.specs.Verdict.{is-admitted}
 use Rattle.verdict.specs.declared.Verdict.{Verdict}

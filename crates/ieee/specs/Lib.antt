@@ -1,2 +1,3 @@
+pub mod Doubles
 pub mod Units
 pub mod Extremes

@@ -4,8 +4,8 @@ use mathlib.Core.Bool.{cond}
 use mathlib.Core.List.{List}
 use lib.Dec.{eqb, ltb}
 use lib.ListN.{length}
-use lib.Ieee as Ieee
-use lib.Ieee.{Float, binary64}
+use lib.Ieee.{Float}
+use Rattle.ieee.specs.Doubles.{_⊕_}
 use Rattle.flow.specs.Flow as flow
 use Rattle.verdict.specs.Verdict as verdicts
 use Rattle.flow.specs.Flow.{at, upto, zeros, dims}
@@ -32,7 +32,7 @@ use Rattle.cut_counts.specs.Counting.{Tally, tally, told}
 
 -- what was admitted so far, and this cost
 unfoldable pub raised : List Float → List Float → List Float
-raised xs cost = upto (λ (d : ℕ). Ieee.add binary64 (at xs d) (at cost d)) dims zeros
+raised xs cost = upto (λ (d : ℕ). at xs d ⊕ at cost d) dims zeros
 
 -- the rank of the record used: by the unit's hash, or overflow's
 unfoldable pub rank-at : ℕ → ℕ → ℕ → Float

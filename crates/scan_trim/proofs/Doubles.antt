@@ -13,8 +13,8 @@ use lib.Ieee.Fits.{round-is}
 use lib.Ieee.Positive.{positive, above, above-of-le, between, le-trans-positive}
 use Rattle.ieee.proofs.Order.{passed}
 use borrow.Author.Tests.{lt-ltb, ltb-true, ltb-false, eq-eqb, ne-eqb}
+use Rattle.ieee.specs.Doubles.{nothing, half, one}
 use Rattle.ieee.specs.Extremes.{clamped, most}
-use Rattle.flow.specs.Flow.{nothing, half, one}
 use Rattle.scan_trim.specs.Laws.{Trim}
 
 -- x is a number, and no not-a-number

@@ -13,6 +13,7 @@ use lib.Ieee as Ieee
 use lib.Ieee.{Float, nan, inf, fin, binary64, fits, round, ofBits, lt, le, ne, up, down}
 use lib.Ieee.Exact.{HasValue, round-exact}
 use lib.Ieee.Fits.{and-r, down-pos, div-fits}
+use Rattle.ieee.specs.Doubles.{nothing, one, whole, thousand}
 use Rattle.ieee.specs.Units.{power, units, Amount}
 use Rattle.ieee.specs.Extremes.{most, clamped}
 use Rattle.ieee.proofs.Power.{power-is, power-pos, power-add, power-mono, power-times}
@@ -22,7 +23,7 @@ use Rattle.ieee.proofs.Operations.{div-rounds, int-rounds}
 use Rattle.ieee.proofs.Extremes.{clamped-nan}
 use Rattle.ieee.proofs.Laws.{rounds-is}
 use Rattle.flow.specs.Flow as flow
-use Rattle.flow.specs.Flow.{nothing, one, at, zeros, numbers, dims}
+use Rattle.flow.specs.Flow.{at, zeros, numbers, dims}
 use Rattle.flow.proofs.Parts.{upto-at}
 use Rattle.wants.specs.Wants.{Hist}
 use Rattle.head.specs.declared.Shedder.{Shedder}
@@ -150,17 +151,17 @@ trim-any found trim rate gain span =
 
 -- ---- in each dimension
 -- a u64 as a double is finite
-whole-finite : (n : ℕ) → n < 2 ^ 64 → (s : Bool) × ((m : ℕ) × ((e : ℤ) × (flow.whole n ≡ fin s m e)))
-whole-finite n h = go (flow.whole n) (rounds-is (int-rounds n) (let l : n ≤ 2 ^ 64 = omega arith in let m = mul-le-mul-right (power 1074) l in omega (arith, power-times 64 1074, power-mono (lit≤ {m = 1138} {n = 2097} tt))) .amount)
+whole-finite : (n : ℕ) → n < 2 ^ 64 → (s : Bool) × ((m : ℕ) × ((e : ℤ) × (whole n ≡ fin s m e)))
+whole-finite n h = go (whole n) (rounds-is (int-rounds n) (let l : n ≤ 2 ^ 64 = omega arith in let m = mul-le-mul-right (power 1074) l in omega (arith, power-times 64 1074, power-mono (lit≤ {m = 1138} {n = 2097} tt))) .amount)
   where
     go : (x : Float) → Amount x → (s : Bool) × ((m : ℕ) × ((e : ℤ) × (x ≡ fin s m e)))
     go nan a = absurd (a .sign)
     go (inf s) a = absurd (a .sign)
     go (fin s m e) a = (s, (m, (e, refl)))
 
-numbers-at : (xs : List ℕ) (d : ℕ) → d < dims → at (numbers xs) d ≡ flow.whole (getD xs d 0)
+numbers-at : (xs : List ℕ) (d : ℕ) → d < dims → at (numbers xs) d ≡ whole (getD xs d 0)
 unfolding numbers
-numbers-at xs d l = upto-at nan (λ (d : ℕ). flow.whole (getD xs d 0)) dims zeros d l (lit≤ tt)
+numbers-at xs d l = upto-at nan (λ (d : ℕ). whole (getD xs d 0)) dims zeros d l (lit≤ tt)
 
 trims-part : (found trim rate admitted read : List Float) (span : Float) (d : ℕ) → d < dims
     → at (trims found trim rate admitted read span) d ≡ trim-of (at found d) (at trim d) (at rate d) (Ieee.sub binary64 (at admitted d) (at read d)) span
@@ -177,7 +178,7 @@ trims-stay h g r t d l =
     (trim-stays _ _ _ _ (w .0) (w .1 .0) (w .1 .1 .0) (span-fits (h .flow .«at_ms») (h .scan .«read_ms»)) (t d l))
   where
     span-fits : (a b : ℕ) → T (fits binary64 (span-of a b))
-    span-fits a b = unfold span-of in div-fits binary64 (flow.whole (a - b)) flow.thousand
+    span-fits a b = unfold span-of in div-fits binary64 (whole (a - b)) thousand
 
 -- ---- the level stored: of a not-a-number as of a number
 pub levels-least : (found trim : List Float) → Levels (levels found trim)

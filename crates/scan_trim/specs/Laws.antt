@@ -8,18 +8,18 @@ use Prim.Native.Nat.{ℕ, _^_, _<_}
 use lib.Dec.{T}
 use lib.IntN.{ℤ}
 use lib.ListN.{getD}
-use lib.Ieee as Ieee
 use lib.Ieee.{Float, nan, fin, binary64, fits}
+use Rattle.ieee.specs.Doubles.{_⊗_, _⊴_, half, one}
 use Rattle.ieee.specs.Extremes.{most}
-use Rattle.flow.specs.Flow.{half, one, at, dims}
+use Rattle.flow.specs.Flow.{at, dims}
 use Rattle.wants.specs.Wants.{Hist}
 use Rattle.head.specs.declared.Shedder.{Shedder}
 use Rattle.scan_trim.specs.Trimming.{trim-of, levels, trimmed}
 
 -- ---- the trim: 0.5 ≤ x ≤ 1. A not-a-number is none, since it compares with nothing
 pub record Trim (x : Float) : Type 0 where
-  pub least : Ieee.le half x ≡ true
-  pub most : Ieee.le x one ≡ true
+  pub least : half ⊴ x ≡ true
+  pub most : x ⊴ one ≡ true
 
 abbrev pub Trims : List Float → Type 0
 Trims xs = (d : ℕ) → d < dims → Trim (at xs d)
@@ -37,9 +37,9 @@ pub record TrimStays : Type 0 where
 
 -- ---- the level stored: open × trim, but at least 1, so never a not-a-number; what a scan stores is, of any values
 abbrev pub Levels : List Float → Type 0
-Levels xs = (d : ℕ) → d < dims → Ieee.le one (at xs d) ≡ true
+Levels xs = (d : ℕ) → d < dims → one ⊴ at xs d ≡ true
 
 pub record LevelStays : Type 0 where
-  pub is : (found trim : List Float) (d : ℕ) → d < dims → at (levels found trim) d ≡ most (Ieee.mul binary64 (at found d) (at trim d)) one
+  pub is : (found trim : List Float) (d : ℕ) → d < dims → at (levels found trim) d ≡ most (at found d ⊗ at trim d) one
   pub each : (found trim : List Float) → Levels (levels found trim)
   pub ended : (h : Shedder) (g : Hist) → Levels (trimmed h g .level)

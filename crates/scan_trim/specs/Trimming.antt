@@ -4,9 +4,10 @@ use mathlib.Core.Bool.{Bool, false, cond}
 use mathlib.Core.List.{List}
 use lib.Ieee as Ieee
 use lib.Ieee.{Float, binary64, ofBits}
+use Rattle.ieee.specs.Doubles.{_⊕_, _⊖_, _⊗_, _⊘_, _⊲_, nothing, one, half}
 use Rattle.ieee.specs.Extremes.{most, clamped}
 use Rattle.flow.specs.Flow as flow
-use Rattle.flow.specs.Flow.{nothing, one, at, upto, zeros, numbers, dims}
+use Rattle.flow.specs.Flow.{at, upto, zeros, numbers, dims}
 use Rattle.wants.specs.Wants as wants
 use Rattle.wants.specs.Wants.{Hist}
 use Rattle.head.specs.declared.Scan.{Scan}
@@ -30,7 +31,7 @@ scan-then h s tracked visits level = record {
 
 -- below +infinity (1 / 0) and above −infinity
 unfoldable pub is-finite : Float → Bool
-is-finite x = cond (Ieee.lt x (Ieee.div binary64 one nothing)) (Ieee.lt (Ieee.div binary64 (Ieee.neg one) nothing) x) false
+is-finite x = cond (x ⊲ one ⊘ nothing) (Ieee.neg one ⊘ nothing ⊲ x) false
 
 abbrev pub twentieth : Float
 twentieth = ofBits binary64 0x3fa9_9999_9999_999a
@@ -38,13 +39,13 @@ twentieth = ofBits binary64 0x3fa9_9999_9999_999a
 -- 1 + span × (rate / gained − 1), in 0.95 to 1.05; the trim closes the gap in 1 second
 unfoldable pub step-of : Float → Float → Float → Float
 step-of rate gained span =
-    clamped (Ieee.add binary64 one (Ieee.mul binary64 (Ieee.div binary64 span one) (Ieee.sub binary64 (Ieee.div binary64 rate gained) one))) (Ieee.sub binary64 one twentieth) (Ieee.add binary64 one twentieth)
+    clamped (one ⊕ span ⊘ one ⊗ (rate ⊘ gained ⊖ one)) (one ⊖ twentieth) (one ⊕ twentieth)
 
 -- 1 where the level found is not finite; else a step from the trim before, but the trim before where no time passed or nothing was gained
 unfoldable pub trim-of : Float → Float → Float → Float → Float → Float
 trim-of found trim rate gain span =
     cond (is-finite found)
-    (cond (Ieee.lt nothing span) (cond (Ieee.lt nothing (Ieee.div binary64 gain span)) (clamped (Ieee.mul binary64 trim (step-of rate (Ieee.div binary64 gain span) span)) flow.half one) trim) trim)
+    (cond (nothing ⊲ span) (cond (nothing ⊲ gain ⊘ span) (clamped (trim ⊗ step-of rate (gain ⊘ span) span) half one) trim) trim)
     one
 
 -- the level found, for each dimension
@@ -52,11 +53,11 @@ unfoldable pub opens : Hist → List Float → List Float
 opens g rate = upto (λ (d : ℕ). wants.level g d (at rate d)) dims zeros
 
 unfoldable pub trims : List Float → List Float → List Float → List Float → List Float → Float → List Float
-trims found trim rate admitted read span = upto (λ (d : ℕ). trim-of (at found d) (at trim d) (at rate d) (Ieee.sub binary64 (at admitted d) (at read d)) span) dims zeros
+trims found trim rate admitted read span = upto (λ (d : ℕ). trim-of (at found d) (at trim d) (at rate d) (at admitted d ⊖ at read d) span) dims zeros
 
 -- the level stored: max(1, open × trim)
 unfoldable pub levels : List Float → List Float → List Float
-levels found trim = upto (λ (d : ℕ). most (Ieee.mul binary64 (at found d) (at trim d)) one) dims zeros
+levels found trim = upto (λ (d : ℕ). most (at found d ⊗ at trim d) one) dims zeros
 
 -- the seconds since the last reading
 unfoldable pub span-of : ℕ → ℕ → Float

@@ -1,4 +1,4 @@
--- The rank's exact value, and that the Rust's table, taken from the rank in doubles, is the table.
+-- The rank's whole value, and that the Rust's table, taken from the rank in doubles, is the table.
 use mathlib.Core.Path.{_≡_, refl, sym, ap, _∙_, subst}
 use Prim.Native.Nat.{ℕ, _+_, _*_, _-_, _/_, _^_, _<_, _≤_, min}
 use native.Mathlib.Nat.{le-of-lt, le-trans, le-of-eq, min-eq-left, mul-le-mul-right, mul-assoc, mul-comm, one-mul, mul-div-mul-right}
@@ -11,11 +11,12 @@ use lib.Ieee.Fits.{down-pos}
 use lib.Ieee.Nearest.{div-same}
 use lib.IntN.{pos}
 use lib.Pow.{shr-lt}
+use Rattle.ieee.specs.Doubles.{whole}
 use Rattle.ieee.specs.Units.{power, units, Is, Amount}
 use Rattle.ieee.proofs.Power.{power-is, power-pos, power-mono, power-add}
 use Rattle.ieee.proofs.Value.{whole-is, amount-value}
 use Rattle.ieee.proofs.Laws.{int-is, div-exact, mul-up}
-use Rattle.sender.specs.Sender.{exact, rank-of-hash, table-of-hash, rust-table, rank, table-of, hash-of}
+use Rattle.sender.specs.Sender.{rank-of-hash, table-of-hash, rust-table, rank, table-of, hash-of}
 use Rattle.sender.specs.declared.Unit as unit
 use Rattle.sender.proofs.Feeding.{hash-below}
 use Rattle.sender.proofs.Ranking.{table-is}
@@ -37,15 +38,15 @@ sixty-four-is : Is (ofBits binary64 0x4050_0000_0000_0000) (power (1074 + 6))
 unfolding ofBits fits
 sixty-four-is = subst (Is (fin false 1 (pos 6))) (one-mul (power 1080)) (whole-is 1 6 tt)
 
--- the quotient is exact: n / 2^53, in units of 2^-1074
-part-is : (n : ℕ) → n < power 53 → Is (Ieee.div binary64 (exact n) (ofBits binary64 0x4340_0000_0000_0000)) (n * power 1021)
+-- the quotient is whole: n / 2^53, in units of 2^-1074
+part-is : (n : ℕ) → n < power 53 → Is (Ieee.div binary64 (whole n) (ofBits binary64 0x4340_0000_0000_0000)) (n * power 1021)
 part-is n h =
-    div-exact (exact n) (ofBits binary64 0x4340_0000_0000_0000) (i .amount) (two-53-is .amount) (subst (λ (u : ℕ). 0 < u) (sym (two-53-is .worth)) (power-pos 1127))
+    div-exact (whole n) (ofBits binary64 0x4340_0000_0000_0000) (i .amount) (two-53-is .amount) (subst (λ (u : ℕ). 0 < u) (sym (two-53-is .worth)) (power-pos 1127))
     (n * power 1021) (record { digits = n; place = 1021; few = h; is = refl })
     (le-trans (mul-le-mul-right (power 1021) (le-of-lt h)) (le-trans (le-of-eq (sym (power-add 53 1021))) (power-mono (lit≤ tt))))
     (ap (λ (u : ℕ). u * power 1074) (i .worth) ∙ mul-assoc n (power 1074) (power 1074) ∙ ap (λ (u : ℕ). n * u) (sym (power-add 1074 1074) ∙ power-add 1021 1127) ∙ sym (mul-assoc n (power 1021) (power 1127)) ∙ ap (λ (u : ℕ). n * power 1021 * u) (sym (two-53-is .worth)))
   where
-    i : Is (exact n) (n * power 1074)
+    i : Is (whole n) (n * power 1074)
     i = int-is n (le-of-lt h)
 
 -- 64 times that, in whole ones

@@ -5,8 +5,8 @@ use mathlib.Core.Bool.{Bool, true, false, cond}
 use mathlib.Core.List.{List, [], _∷_, _++_}
 use lib.Dec.{eqb, ltb}
 use lib.IntN.{pos}
-use lib.Ieee as Ieee
 use lib.Ieee.{Float, binary64, ofBits, ofInt, toUnsigned}
+use Rattle.ieee.specs.Doubles.{_⊗_, _⊘_, whole}
 use Rattle.fnv.specs.Fnv.{fnv1a, big-endian}
 use Rattle.sender.specs.declared.PublicKey.{PublicKey}
 use Rattle.sender.specs.declared.Group.{Group}
@@ -44,12 +44,9 @@ hash-of u = fnv1a (bytes-of u)
 
 -- ---- rank and table
 
-abbrev pub exact : ℕ → Float
-exact n = ofInt binary64 (pos n)
-
 -- (hash >> 11) / 2^53, a double: 0x4340_0000_0000_0000 is 2^53
 unfoldable pub rank-of-hash : ℕ → Float
-rank-of-hash hash = Ieee.div binary64 (exact (hash / 2 ^ 11)) (ofBits binary64 0x4340_0000_0000_0000)
+rank-of-hash hash = whole (hash / 2 ^ 11) ⊘ ofBits binary64 0x4340_0000_0000_0000
 
 -- the whole part of 64 × rank
 unfoldable pub table-of-hash : ℕ → ℕ
@@ -66,7 +63,7 @@ table-of-tag tag = tag / 1024
 -- the table as the Rust takes it from the rank: the double product with 64.0 (0x4050_0000_0000_0000), cut to its whole part,
 -- and at most 63. `rust-table-is` shows that this is the same table
 unfoldable pub rust-table : Float → ℕ
-rust-table r = min (toUnsigned 64 (Ieee.mul binary64 r (ofBits binary64 0x4050_0000_0000_0000))) 63
+rust-table r = min (toUnsigned 64 (r ⊗ ofBits binary64 0x4050_0000_0000_0000)) 63
 
 abbrev pub rank : unit.Unit → Float
 rank u = rank-of-hash (hash-of u)

@@ -1,6 +1,7 @@
 // The hash of a unit, and what follows from it: its rank and its table.
 ghost use mathlib.Core.Path.{_≡_};
 ghost use Prim.Native.Nat.{_<_};
+ghost use Rattle.ieee.specs.Doubles.{whole};
 ghost use Rattle.sender.specs.Sender as sender;
 use super::PublicKey;
 use super::Unit;
@@ -31,7 +32,7 @@ pub fn hash_of(unit: Unit) -> u64
 
 fn exact(n: u64) -> f64
     requires { ⌜ n < 9007199254740992 ⌝ }
-    ensures { λ r. ⌜ r ≡ sender.exact n ⌝ }
+    ensures { λ r. ⌜ r ≡ whole n ⌝ }
 {
     n as f64
 }

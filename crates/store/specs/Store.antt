@@ -6,8 +6,9 @@ use mathlib.Core.List.{List, [], _∷_}
 use lib.Dec.{eqb, ltb}
 use lib.ListN.{getD, set, replicate}
 use lib.Ieee.{Float}
+use Rattle.ieee.specs.Doubles.{nothing}
 use Rattle.flow.specs.Flow as flow
-use Rattle.flow.specs.Flow.{nothing, at, upto, dims}
+use Rattle.flow.specs.Flow.{at, upto, dims}
 use Rattle.flow.specs.declared.Use.{Use}
 use Rattle.sender.specs.declared.Name.{Name}
 use Rattle.sender.specs.declared.Words.{Words}

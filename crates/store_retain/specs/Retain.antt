@@ -4,7 +4,8 @@ use mathlib.Core.Bool.{Bool, true, false, cond}
 use mathlib.Core.List.{List, []}
 use lib.Dec.{ltb}
 use lib.ListN.{getD, set, replicate}
-use Rattle.flow.specs.Flow.{nothing, dims}
+use Rattle.ieee.specs.Doubles.{nothing}
+use Rattle.flow.specs.Flow.{dims}
 use Rattle.store.specs.Store.{Rows, unit-row, stamp-at, in-table}
 
 -- more than 8,000 milliseconds before

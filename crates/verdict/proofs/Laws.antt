@@ -8,13 +8,14 @@ use mathlib.Core.List.{List}
 use lib.Dec.{T}
 use lib.Ieee as Ieee
 use lib.Ieee.{Float, binary64}
+use Rattle.ieee.specs.Doubles.{one, whole}
 use Rattle.ieee.specs.Units.{power, units, Amount, Is}
 use Rattle.ieee.proofs.Power.{power-is}
 use Rattle.ieee.proofs.Order.{passed, le-units}
 use Rattle.ieee.proofs.Laws.{int-is}
 use Rattle.flow.specs.declared.Bucket.{Bucket}
 use Rattle.flow.specs.declared.Use.{Use}
-use Rattle.flow.specs.Flow.{dims, one, whole, at, bucket-at, credited, refilled-all, spent, spent-all, charged}
+use Rattle.flow.specs.Flow.{dims, at, bucket-at, credited, refilled-all, spent, spent-all, charged}
 use Rattle.flow.proofs.Parts.{upto-length, each-at, buckets-at, all-at, all-of}
 use Rattle.flow.proofs.Difference.{sub-whole}
 use Rattle.verdict.specs.declared.Verdict.{Verdict}

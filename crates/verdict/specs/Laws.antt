@@ -6,12 +6,12 @@ use mathlib.Core.Bool.{true}
 use mathlib.Core.List.{List}
 use lib.ListN.{length}
 use lib.Dec.{T}
-use lib.Ieee as Ieee
 use lib.Ieee.{Float}
+use Rattle.ieee.specs.Doubles.{_⊴_, one, whole}
 use Rattle.ieee.specs.Units.{power, units, Amount, Is}
 use Rattle.flow.specs.declared.Bucket.{Bucket}
 use Rattle.flow.specs.declared.Use.{Use}
-use Rattle.flow.specs.Flow.{dims, one, whole, at, bucket-at, is-fresh, credited, refilled-all}
+use Rattle.flow.specs.Flow.{dims, at, bucket-at, is-fresh, credited, refilled-all}
 use Rattle.verdict.specs.declared.Outcome.{Outcome}
 use Rattle.verdict.specs.declared.Verdict.the-variants.{Admitted, OverShare, RelayRate}
 use Rattle.verdict.specs.Verdict.{want, weight-of, met, judged}
@@ -32,8 +32,8 @@ module _ (bs : List Bucket) (u : Use) (now elapsed : ℕ) (cost fill level : Lis
 
   -- an admitted batch was held by the credit and by the tokens, in each dimension
   pub record Asked : Type 0 where
-    pub credited : outcome .verdict ≡ Admitted → (d : ℕ) → d < dims → Ieee.le (at cost d) (credit d) ≡ true
-    pub tokened : outcome .verdict ≡ Admitted → (d : ℕ) → d < dims → Ieee.le (at cost d) (bucket d .tokens) ≡ true
+    pub credited : outcome .verdict ≡ Admitted → (d : ℕ) → d < dims → at cost d ⊴ credit d ≡ true
+    pub tokened : outcome .verdict ≡ Admitted → (d : ℕ) → d < dims → at cost d ⊴ bucket d .tokens ≡ true
 
   -- a refused batch takes nothing: the buckets stay as refilled, the credit as credited
   pub record Kept : Type 0 where
@@ -42,9 +42,9 @@ module _ (bs : List Bucket) (u : Use) (now elapsed : ℕ) (cost fill level : Lis
 
   -- within the level, OverShare says that a credit lacks, and RelayRate that each credit holds and a bucket's tokens lack
   pub record Told : Type 0 where
-    pub over-share : T (Ieee.le wants one) → outcome .verdict ≡ OverShare → ((d : ℕ) → d < dims → Ieee.le (at cost d) (credit d) ≡ true) → ⊥
-    pub relay-rate : outcome .verdict ≡ RelayRate → (d : ℕ) → d < dims → Ieee.le (at cost d) (credit d) ≡ true
-    pub no-tokens : outcome .verdict ≡ RelayRate → ((d : ℕ) → d < dims → Ieee.le (at cost d) (bucket d .tokens) ≡ true) → ⊥
+    pub over-share : T (wants ⊴ one) → outcome .verdict ≡ OverShare → ((d : ℕ) → d < dims → at cost d ⊴ credit d ≡ true) → ⊥
+    pub relay-rate : outcome .verdict ≡ RelayRate → (d : ℕ) → d < dims → at cost d ⊴ credit d ≡ true
+    pub no-tokens : outcome .verdict ≡ RelayRate → ((d : ℕ) → d < dims → at cost d ⊴ bucket d .tokens ≡ true) → ⊥
 
   -- an admitted batch takes its cost n exactly, from tokens and credit that are amounts up to 2 ^ 46
   pub record Paid (d n : ℕ) : Type 0 where

@@ -3,11 +3,11 @@ use Prim.Native.Nat.{ℕ, _-_}
 use mathlib.Core.Bool.{Bool, true, false, cond}
 use mathlib.Core.List.{List}
 use lib.Dec.{leb}
-use lib.Ieee as Ieee
 use lib.Ieee.{Float, binary64, ofBits}
+use Rattle.ieee.specs.Doubles.{_⊕_, _⊖_, _⊗_, _⊘_, _⊴_, one, half, two}
 use Rattle.flow.specs.declared.Bucket.{Bucket}
 use Rattle.flow.specs.declared.Use.{Use}
-use Rattle.flow.specs.Flow.{dims, one, half, two, largest, all, at, bucket-at, is-fresh, credited, fade-to, tried, charged, refilled-all, spent-all}
+use Rattle.flow.specs.Flow.{dims, largest, all, at, bucket-at, is-fresh, credited, fade-to, tried, charged, refilled-all, spent-all}
 use Rattle.verdict.specs.declared.Outcome.{Outcome}
 use Rattle.verdict.specs.declared.Verdict.{Verdict}
 use Rattle.verdict.specs.declared.Verdict.the-variants.{Admitted, OverShare, RelayRate}
@@ -18,18 +18,18 @@ weight-of fresh idle = cond fresh one (cond (leb 2000 idle) one half)
 -- how many times the level the unit wants; `attempted` has this batch in it already
 abbrev pub want-of : Float → Float → Float → Float → Float
 want-of weight attempted cost level =
-    Ieee.div binary64 (Ieee.div binary64 (Ieee.add binary64 attempted (Ieee.mul binary64 (Ieee.sub binary64 weight one) cost)) two) level
+    (attempted ⊕ (weight ⊖ one) ⊗ cost) ⊘ two ⊘ level
 
 -- the three rules, each for one dimension
 abbrev pub credit-holds : Float → Float → Bool
-credit-holds credit cost = Ieee.le cost credit
+credit-holds credit cost = cost ⊴ credit
 
 abbrev pub tokens-hold : Bucket → Float → Bool
-tokens-hold b cost = Ieee.le cost (b .tokens)
+tokens-hold b cost = cost ⊴ b .tokens
 
 -- the part of the burst that the batch would leave reaches the mark
 abbrev pub reserve-holds : Bucket → Float → Float → Bool
-reserve-holds b cost mark = Ieee.le mark (Ieee.div binary64 (Ieee.sub binary64 (b .tokens) cost) (b .burst))
+reserve-holds b cost mark = mark ⊴ (b .tokens ⊖ cost) ⊘ b .burst
 
 abbrev pub tenth : Float
 tenth = ofBits binary64 0x3fb9_9999_9999_999a
@@ -39,7 +39,7 @@ millionth = ofBits binary64 0x3eb0_c6f7_a0b5_ed8d
 
 -- the mark rises with the want, by a hair with the rank
 abbrev pub mark-of : Float → Float → Float
-mark-of wants rank = Ieee.mul binary64 tenth (Ieee.sub binary64 one (Ieee.div binary64 one (Ieee.mul binary64 wants (Ieee.add binary64 one (Ieee.mul binary64 rank millionth)))))
+mark-of wants rank = tenth ⊗ (one ⊖ one ⊘ (wants ⊗ (one ⊕ rank ⊗ millionth)))
 
 abbrev pub want : Float → List Float → List Float → List Float → Float
 want weight attempted cost level = largest (λ (d : ℕ). want-of weight (at attempted d) (at cost d) (at level d)) dims
@@ -55,7 +55,7 @@ abbrev pub above : Bool → Bool → Bool → Verdict
 above credit tokens reserve = cond credit (cond tokens (cond reserve Admitted OverShare) OverShare) OverShare
 
 abbrev pub decided : Float → Bool → Bool → Bool → Verdict
-decided wants credit tokens reserve = cond (Ieee.le wants one) (within credit tokens) (above credit tokens reserve)
+decided wants credit tokens reserve = cond (wants ⊴ one) (within credit tokens) (above credit tokens reserve)
 
 abbrev pub is-admitted : Verdict → Bool
 is-admitted Admitted = true

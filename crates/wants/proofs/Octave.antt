@@ -12,7 +12,7 @@ use lib.Ieee as Ieee
 use lib.Ieee.{Float, nan, inf, fin, binary64, up, down, fits, odd, ofFields, ofBits, toBits}
 use lib.Ieee.Bits.{ofBits-toBits}
 use lib.Ieee.Exact.{HasValue, odd-sign}
-use Rattle.flow.specs.Flow.{one}
+use Rattle.ieee.specs.Doubles.{one}
 
 -- ---- what 1 < x says of a number of value a / c
 more : (x : Float) (a c : ℕ) → 0 < c → HasValue x false a c → Ieee.lt one x ≡ true → c < a

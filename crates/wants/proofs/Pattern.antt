@@ -7,7 +7,7 @@ use native.Mathlib.Decide.{decLe}
 use lib.Ieee as Ieee
 use lib.Ieee.{Float, binary64, fits, toBits, ofBits}
 use lib.Dec.{T}
-use Rattle.flow.specs.Flow.{one}
+use Rattle.ieee.specs.Doubles.{one}
 use Rattle.wants.specs.Bucket.{bucket-of, largest, at-least-one, Sixteenth}
 use Rattle.wants.proofs.Least.{from-first, under-first}
 use Rattle.wants.proofs.Even.{ordered}

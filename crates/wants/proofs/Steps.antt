@@ -9,14 +9,14 @@ use mathlib.Core.Bool.{true, false}
 use lib.ListN.{getD}
 use lib.Ieee as Ieee
 use lib.Ieee.{Float, binary64}
-use Rattle.flow.specs.Flow.{nothing}
-use Rattle.wants.specs.Wants.{counted, number, Walk, fits, stopped, next, walked, found}
+use Rattle.ieee.specs.Doubles.{nothing, whole}
+use Rattle.wants.specs.Wants.{counted, Walk, fits, stopped, next, walked, found}
 
 pub counted-none : (cs : List ℕ) → counted cs 0 ≡ nothing
 unfolding counted
 counted-none cs = refl
 
-pub counted-next : (cs : List ℕ) (b : ℕ) → counted cs (b + 1) ≡ Ieee.add binary64 (counted cs b) (number (getD cs b 0))
+pub counted-next : (cs : List ℕ) (b : ℕ) → counted cs (b + 1) ≡ Ieee.add binary64 (counted cs b) (whole (getD cs b 0))
 unfolding counted
 counted-next cs b = rw add-one
 
@@ -25,7 +25,7 @@ pub empty : (n : ℕ) (sum left remaining : Float) → n ≡ 0 → next n sum (f
 unfolding next
 empty n sum left remaining z = rw (eq-eqb n 0 z)
 
-module _ (n : ℕ) (sum left remaining count : Float) (some : n ≡ 0 → ⊥) (is : count ≡ number n) where
+module _ (n : ℕ) (sum left remaining count : Float) (some : n ≡ 0 → ⊥) (is : count ≡ whole n) where
   pub fitting : Ieee.le (Ieee.mul binary64 (Ieee.div binary64 sum count) remaining) left ≡ true
       → next n sum (fits left remaining) ≡ fits (Ieee.sub binary64 left sum) (Ieee.sub binary64 remaining count)
   unfolding next

@@ -7,44 +7,44 @@ use native.Mathlib.Omega.{arith}
 use lib.Dec.{lit≤}
 use lib.ListN.{getD}
 use lib.Ieee.{binary64, add}
+use Rattle.ieee.specs.Doubles.{nothing, whole}
 use Rattle.ieee.specs.Units.{units, power, Is}
 use Rattle.ieee.proofs.Power.{power-is, power-pos, power-add}
 use Rattle.ieee.proofs.Value.{same-units, zero-is}
 use Rattle.ieee.proofs.Laws.{add-exact, int-is}
-use Rattle.flow.specs.Flow.{nothing}
-use Rattle.wants.specs.Wants.{counted, number}
+use Rattle.wants.specs.Wants.{counted}
 use Rattle.wants.proofs.Steps.{counted-next}
 
 below : (k : ℕ) → k < 2 ^ 53 → k < power 53
 below k h = subst (λ (p : ℕ). k < p) (power-is 53) h
 
-pub sum-of : (m n : ℕ) → m + n < 2 ^ 53 → add binary64 (number m) (number n) ≡ number (m + n)
-sum-of m n h = same-units (add binary64 (number m) (number n)) (number (m + n)) (sum .amount) (whole .amount) (sum .worth ∙ total ∙ sym (whole .worth))
+pub sum-of : (m n : ℕ) → m + n < 2 ^ 53 → add binary64 (whole m) (whole n) ≡ whole (m + n)
+sum-of m n h = same-units (add binary64 (whole m) (whole n)) (whole (m + n)) (sum .amount) (whole .amount) (sum .worth ∙ total ∙ sym (whole .worth))
   where
     small : m + n < power 53
     small = below (m + n) h
 
-    left : Is (number m) (m * power 1074)
+    left : Is (whole m) (m * power 1074)
     left = int-is m (omega (arith, small))
 
-    right : Is (number n) (n * power 1074)
+    right : Is (whole n) (n * power 1074)
     right = int-is n (omega (arith, small))
 
-    whole : Is (number (m + n)) ((m + n) * power 1074)
+    whole : Is (whole (m + n)) ((m + n) * power 1074)
     whole = int-is (m + n) (le-of-lt small)
 
-    total : units (number m) + units (number n) ≡ (m + n) * power 1074
+    total : units (whole m) + units (whole n) ≡ (m + n) * power 1074
     total = ap₂ (λ (a b : ℕ). a + b) (left .worth) (right .worth) ∙ omega arith
 
-    fits : units (number m) + units (number n) < power (53 + 1074)
+    fits : units (whole m) + units (whole n) < power (53 + 1074)
     fits = rw (total, power-add 53 1074) (mul-lt-mul-of-pos-right small (power-pos 1074))
 
-    sum : Is (add binary64 (number m) (number n)) (units (number m) + units (number n))
-    sum = add-exact (number m) (number n) (left .amount) (right .amount) 1074 (lit≤ tt) (record { count = m + n; is = total }) fits
+    sum : Is (add binary64 (whole m) (whole n)) (units (whole m) + units (whole n))
+    sum = add-exact (whole m) (whole n) (left .amount) (right .amount) 1074 (lit≤ tt) (record { count = m + n; is = total }) fits
 
-pub number-zero : number 0 ≡ nothing
-number-zero = same-units (number 0) nothing (int-is 0 (omega arith) .amount) (zero-is .amount) (int-is 0 (omega arith) .worth ∙ omega arith ∙ sym (zero-is .worth))
+pub number-zero : whole 0 ≡ nothing
+number-zero = same-units (whole 0) nothing (int-is 0 (omega arith) .amount) (zero-is .amount) (int-is 0 (omega arith) .worth ∙ omega arith ∙ sym (zero-is .worth))
 
--- a turn of the sum: the whole number so far, and one bucket's more
-pub sum-next : (cs : List ℕ) (i total n : ℕ) → number total ≡ counted cs i → n ≡ getD cs i 0 → total + n < 2 ^ 53 → number (total + n) ≡ counted cs (i + 1)
-sum-next cs i total n e f h = sym (sum-of total n h) ∙ ap₂ (add binary64) e (ap number f) ∙ sym (counted-next cs i)
+-- a turn of the sum: the whole whole so far, and one bucket's more
+pub sum-next : (cs : List ℕ) (i total n : ℕ) → whole total ≡ counted cs i → n ≡ getD cs i 0 → total + n < 2 ^ 53 → whole (total + n) ≡ counted cs (i + 1)
+sum-next cs i total n e f h = sym (sum-of total n h) ∙ ap₂ (add binary64) e (ap whole f) ∙ sym (counted-next cs i)

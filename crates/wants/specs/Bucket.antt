@@ -2,9 +2,8 @@
 use Prim.Native.Nat.{ℕ, zero, suc, _+_, _*_, _^_, _≤_, _<_}
 use mathlib.Core.Bool.{Bool, true, false, cond}
 use lib.Dec.{leb}
-use lib.Ieee as Ieee
 use lib.Ieee.{Float, nan, inf, fin, up, down}
-use Rattle.flow.specs.Flow.{one}
+use Rattle.ieee.specs.Doubles.{_⊲_, one}
 
 -- 2 ^ b ≤ x ^ 16, both sides multiplied by the denominator
 unfoldable pub reaches : ℕ → Float → Bool
@@ -19,11 +18,11 @@ largest (suc b) x = cond (reaches (suc b) x) (suc b) (largest b x)
 
 -- a want up to 1, or not-a-number, goes to bucket 0; else the largest b with 2 ^ b ≤ want ^ 16, at most 767
 unfoldable pub bucket-of : Float → ℕ
-bucket-of want = cond (Ieee.lt one want) (largest 767 want) 0
+bucket-of want = cond (one ⊲ want) (largest 767 want) 0
 
 -- the want, or 1 where it is not above 1 or not-a-number
 unfoldable pub at-least-one : Float → Float
-at-least-one want = cond (Ieee.lt one want) want one
+at-least-one want = cond (one ⊲ want) want one
 
 -- ---- within an octave: w = s / 2 ^ 52 lies from 1 to 2, and (2 ^ 52) ^ 16 = 2 ^ 832
 

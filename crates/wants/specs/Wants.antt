@@ -7,16 +7,10 @@ use lib.IntN.{pos}
 use lib.ListN.{getD, set, replicate}
 use lib.Ieee as Ieee
 use lib.Ieee.{Float, binary64, ofBits, ofInt}
+use Rattle.ieee.specs.Doubles.{_⊕_, _⊖_, _⊗_, _⊘_, _⊴_, nothing, whole, infinity}
 use Rattle.flow.specs.Flow as flow
-use Rattle.flow.specs.Flow.{nothing, dims}
+use Rattle.flow.specs.Flow.{dims}
 use Rattle.wants.specs.Bucket.{bucket-of}
-
--- a count as a double
-abbrev pub number : ℕ → Float
-number n = ofInt binary64 (pos n)
-
-abbrev pub infinity : Float
-infinity = ofBits binary64 0x7ff0_0000_0000_0000
 
 -- ---- what is lent: for each dimension 768 counts and 768 sums
 pub record Hist : Type 0 where
@@ -42,7 +36,7 @@ unfoldable pub one-more : List ℕ → ℕ → List ℕ
 one-more counts b = set counts b ((getD counts b 0 + 1) % 2 ^ 32)
 
 unfoldable pub plus : List Float → ℕ → Float → List Float
-plus sums b want = set sums b (Ieee.add binary64 (getD sums b Ieee.nan) want)
+plus sums b want = set sums b (getD sums b Ieee.nan ⊕ want)
 
 unfoldable pub added : Hist → ℕ → Float → Hist
 added h d want = record {
@@ -55,7 +49,7 @@ added h d want = record {
 -- the units counted in the first so many buckets, summed upward
 unfoldable pub counted : List ℕ → ℕ → Float
 counted counts zero = nothing
-counted counts (suc b) = Ieee.add binary64 (counted counts b) (number (getD counts b 0))
+counted counts (suc b) = counted counts b ⊕ whole (getD counts b 0)
 
 -- The walk over the buckets: so far all of them fit, with so much of the rate left and so many units remaining; or it has stopped, at a level.
 pub data Walk : Type 0 where
@@ -65,14 +59,14 @@ pub data Walk : Type 0 where
 -- A bucket of so many units, above none, and their sum: it fits where its mean want, taken for all the units that remain, is within what is left.
 abbrev pub filled : Float → Float → Float → Float → Walk
 filled count sum left remaining =
-    cond (Ieee.le (Ieee.mul binary64 (Ieee.div binary64 sum count) remaining) left)
-    (fits (Ieee.sub binary64 left sum) (Ieee.sub binary64 remaining count))
-    (stopped (Ieee.div binary64 left remaining))
+    cond (sum ⊘ count ⊗ remaining ⊴ left)
+    (fits (left ⊖ sum) (remaining ⊖ count))
+    (stopped (left ⊘ remaining))
 
 -- one bucket more; an empty one changes nothing
 unfoldable pub next : ℕ → Float → Walk → Walk
 next count sum (stopped level) = stopped level
-next count sum (fits left remaining) = cond (eqb count 0) (fits left remaining) (filled (number count) sum left remaining)
+next count sum (fits left remaining) = cond (eqb count 0) (fits left remaining) (filled (whole count) sum left remaining)
 
 -- the first so many buckets
 unfoldable pub walked : List ℕ → List Float → Float → ℕ → Walk

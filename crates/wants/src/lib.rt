@@ -4,6 +4,7 @@ ghost use mathlib.Core.Path.{_≡_};
 ghost use mathlib.Core.List.{[]};
 ghost use lib.ListN.{getD};
 ghost use Prim.Native.Nat.{_<_};
+ghost use Rattle.ieee.specs.Doubles.{whole, infinity};
 ghost use Rattle.wants.specs.Wants as wants;
 
 pub mod bucket;
@@ -42,14 +43,14 @@ pub fn add(
 }
 
 fn number(n: u32) -> f64
-    ensures { λ r. ⌜ r ≡ wants.number n ⌝ }
+    ensures { λ r. ⌜ r ≡ whole n ⌝ }
 {
     n as f64
 }
 
 // Rattle has no f64::INFINITY: by its bit pattern.
 fn infinity() -> f64
-    ensures { λ r. ⌜ r ≡ wants.infinity ⌝ }
+    ensures { λ r. ⌜ r ≡ infinity ⌝ }
 {
     f64::from_bits(9218868437227405312)
 }

@@ -3,11 +3,12 @@ use Rattle.cut.specs.Cutting.{lowered}
 use lib.Ieee.{binary64, sub}
 use Rattle.ieee.specs.Extremes.{most}
 use Rattle.flow.proofs.Parts.{upto-none, upto-next}
-use Rattle.flow.specs.Flow.{at, upto, nothing}
+use Rattle.flow.specs.Flow.{at, upto}
 use native.Mathlib.Omega.{arith}
 use Prim.Native.Nat.{ℕ, _≤_, _-_}
 use mathlib.Core.Path.{_≡_}
 use borrow.Author.Needs.{needs}
+use Rattle.ieee.specs.Doubles.{nothing}
 use Rattle.cut.proofs.lowered.Statement.{statement}
 use Rattle.cut.proofs.lowered.Tie as tie
 

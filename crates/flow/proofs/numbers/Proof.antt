@@ -4,7 +4,8 @@ use Prim.Native.Nat.{ℕ, _≤_, _-_}
 use native.Mathlib.Omega.{arith}
 use borrow.Author.Needs.{needs}
 use lib.ListN.{getD}
-use Rattle.flow.specs.Flow.{dims, upto, zeros, whole, numbers}
+use Rattle.ieee.specs.Doubles.{whole}
+use Rattle.flow.specs.Flow.{dims, upto, zeros, numbers}
 use Rattle.flow.proofs.Parts.{upto-none, upto-next}
 use Rattle.flow.proofs.numbers.Statement.{statement}
 use Rattle.flow.proofs.numbers.Tie as tie

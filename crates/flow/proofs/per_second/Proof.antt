@@ -2,7 +2,7 @@
 use mathlib.Core.Path.{_≡_, refl, sym, ap, _∙_}
 use borrow.Author.Needs.{needs}
 use lib.Ieee.{binary64, ofBits, ofInt}
-use Rattle.flow.specs.Flow.{whole}
+use Rattle.ieee.specs.Doubles.{whole}
 use Rattle.flow.proofs.per_second.Statement.{statement}
 use Rattle.flow.proofs.per_second.Tie as tie
 

@@ -1,11 +1,12 @@
 use Rattle.head.specs.Start.{buckets}
 use lib.ListN.{getD, replicate}
 use Rattle.flow.proofs.Parts.{upto-none, upto-next}
-use Rattle.flow.specs.Flow.{upto, nothing, opened, dims}
+use Rattle.flow.specs.Flow.{upto, opened, dims}
 use native.Mathlib.Omega.{arith}
 use Prim.Native.Nat.{ℕ, _≤_, _-_}
 use mathlib.Core.Path.{_≡_}
 use borrow.Author.Needs.{needs}
+use Rattle.ieee.specs.Doubles.{nothing}
 use Rattle.head.proofs.buckets.Statement.{statement}
 use Rattle.head.proofs.buckets.Tie as tie
 

@@ -1,12 +1,13 @@
 use Rattle.scan_trim.specs.Trimming.{levels}
 use lib.Ieee.{binary64, mul}
 use Rattle.flow.proofs.Parts.{upto-none, upto-next}
-use Rattle.flow.specs.Flow.{at, upto, zeros, one, dims}
+use Rattle.flow.specs.Flow.{at, upto, zeros, dims}
 use Rattle.ieee.specs.Extremes.{most}
 use native.Mathlib.Omega.{arith}
 use Prim.Native.Nat.{ℕ, _≤_, _-_}
 use mathlib.Core.Path.{_≡_}
 use borrow.Author.Needs.{needs}
+use Rattle.ieee.specs.Doubles.{one}
 use Rattle.scan_trim.proofs.levels.Statement.{statement}
 use Rattle.scan_trim.proofs.levels.Tie as tie
 

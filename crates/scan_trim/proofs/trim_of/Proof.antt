@@ -1,9 +1,9 @@
 use Rattle.scan_trim.specs.Trimming.{trim-of}
 use Rattle.ieee.specs.Extremes.{clamped}
-use Rattle.flow.specs.Flow.{half, one}
 use lib.Ieee.{Float, binary64, mul}
 use mathlib.Core.Path.{sym, ap, _∙_}
 use borrow.Author.Needs.{needs}
+use Rattle.ieee.specs.Doubles.{half, one}
 use Rattle.scan_trim.proofs.trim_of.Statement.{statement}
 use Rattle.scan_trim.proofs.trim_of.Tie as tie
 

@@ -1,19 +1,20 @@
--- `wants::counted` meets its contract: the whole number summed so far is, as a double, the sum of the buckets passed. Assumes nothing.
+-- `wants::counted` meets its contract: the whole whole summed so far is, as a double, the sum of the buckets passed. Assumes nothing.
 use Rattle.flow.specs.Flow.{dims}
 use Rattle.wants.proofs.Steps.{counted-none}
 use Rattle.wants.proofs.Whole.{number-zero, sum-next}
 use native.Mathlib.Omega.{arith}
 use Prim.Native.Nat.{_*_, _≤_, _<_, _-_}
-use Rattle.wants.specs.Wants.{counted, number}
+use Rattle.wants.specs.Wants.{counted}
 use mathlib.Core.List.{[]}
 use mathlib.Core.Path.{_≡_, sym, _∙_}
 use lib.ListN.{getD}
 use borrow.Author.Needs.{needs}
+use Rattle.ieee.specs.Doubles.{whole}
 use Rattle.wants.proofs.counted.Statement.{statement}
 use Rattle.wants.proofs.counted.Tie as tie
 
 abbrev Inv-loop : tie.InvT-loop
-Inv-loop counts dim total₀ i₀ total i = (i ≤ 768) × (dim < dims) × (total ≤ i * 4294967296) × (number total ≡ counted (getD counts dim []) i)
+Inv-loop counts dim total₀ i₀ total i = (i ≤ 768) × (dim < dims) × (total ≤ i * 4294967296) × (whole total ≡ counted (getD counts dim []) i)
 
 abbrev μ-loop : tie.MeasureT-loop
 μ-loop counts dim total₀ i₀ total i = 768 - i

@@ -4,8 +4,9 @@ use Prim.Native.Nat.{ℕ, _≤_, _-_}
 use native.Mathlib.Omega.{arith}
 use borrow.Author.Needs.{needs}
 use lib.Ieee.{binary64, sub}
+use Rattle.ieee.specs.Doubles.{nothing}
 use Rattle.ieee.specs.Extremes.{most}
-use Rattle.flow.specs.Flow.{dims, at, upto, nothing, holding, trying, credit-back}
+use Rattle.flow.specs.Flow.{dims, at, upto, holding, trying, credit-back}
 use Rattle.flow.proofs.Parts.{upto-none, upto-next}
 use Rattle.flow.proofs.Use.handed_back.Statement.{statement}
 use Rattle.flow.proofs.Use.handed_back.Tie as tie

@@ -4,7 +4,8 @@ use Prim.Native.Nat.{ℕ, _≤_, _-_}
 use native.Mathlib.Omega.{arith}
 use borrow.Author.Needs.{needs}
 use lib.Ieee.{binary64, mul, div}
-use Rattle.flow.specs.Flow.{dims, at, upto, zeros, two, rates}
+use Rattle.ieee.specs.Doubles.{two}
+use Rattle.flow.specs.Flow.{dims, at, upto, zeros, rates}
 use Rattle.flow.proofs.Parts.{upto-none, upto-next}
 use Rattle.flow.proofs.Use.rates.Statement.{statement}
 use Rattle.flow.proofs.Use.rates.Tie as tie

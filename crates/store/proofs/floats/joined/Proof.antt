@@ -4,8 +4,9 @@ use borrow.Author.Needs.{needs}
 use lib.ListN.{replicate}
 use mathlib.Core.Path.{_≡_}
 use native.Mathlib.Omega.{arith}
+use Rattle.ieee.specs.Doubles.{nothing}
 use Rattle.flow.proofs.Parts.{upto-none, upto-next}
-use Rattle.flow.specs.Flow.{upto, nothing, dims}
+use Rattle.flow.specs.Flow.{upto, dims}
 use Rattle.store.specs.Store.{picked, joined}
 use Rattle.store.proofs.floats.joined.Statement.{statement}
 use Rattle.store.proofs.floats.joined.Tie as tie

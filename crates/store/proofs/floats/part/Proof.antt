@@ -4,8 +4,9 @@ use borrow.Author.Needs.{needs}
 use lib.ListN.{replicate}
 use mathlib.Core.Path.{_≡_}
 use native.Mathlib.Omega.{arith}
+use Rattle.ieee.specs.Doubles.{nothing}
 use Rattle.flow.proofs.Parts.{upto-none, upto-next}
-use Rattle.flow.specs.Flow.{at, upto, nothing, dims}
+use Rattle.flow.specs.Flow.{at, upto, dims}
 use Rattle.store.specs.Store.{part}
 use Rattle.store.proofs.floats.part.Statement.{statement}
 use Rattle.store.proofs.floats.part.Tie as tie
