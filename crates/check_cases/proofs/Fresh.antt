@@ -57,4 +57,5 @@ pub is-relayed : (now : ℕ) (rank : Float) → judged buckets (added now) now 0
 is-relayed now rank =
     let w = want-is-one now in
     told buckets (added now) now 0 cost (fills rate rate) rate rank
-    ∙ relayed (Ieee.le (fresh-want now) one) (covers (credited (added now) now (fills rate rate) .credit) cost) (suffice (refilled-all buckets 0) cost) (leaves (refilled-all buckets 0) cost (mark-of (fresh-want now) rank)) (ap (λ (w : Float). Ieee.le w one) w ∙ within-level) (credit-is now) tokens-are
+    ∙ relayed (Ieee.le (fresh-want now) one) (covers (credited (added now) now (fills rate rate) .credit) cost) (suffice (refilled-all buckets 0) cost)
+    (leaves (refilled-all buckets 0) cost (mark-of (fresh-want now) rank)) (ap (λ (w : Float). Ieee.le w one) w ∙ within-level) (credit-is now) tokens-are

@@ -55,9 +55,9 @@ rate = replicate dims (whole 10)
 abbrev pub cost : List Float
 cost = replicate dims (whole 20)
 
--- its want at its first judgement, stamped `now`; the level is the rate
+-- its want at its first judgement, stamped `clock`; the level is the rate
 abbrev pub fresh-want : ℕ → Float
-fresh-want now = want (weight-of true 0) (met (flow.added now) now (fills rate rate) cost .attempted) cost rate
+fresh-want clock = want (weight-of true 0) (met (flow.added clock) clock (fills rate rate) cost .attempted) cost rate
 
 pub record Cases : Type 0 where
   -- hash of byte 2 af63bf4c8601bb45, byte 3 af63be4c8601b992 (hexadecimal), both table 43
@@ -87,5 +87,5 @@ pub record Cases : Type 0 where
   pub fade-128000 : fade 128000 ≡ fin false 0 (pos 0)
   -- rate 10, fresh cost 20, tokens 10: want 1, RelayRate; at any stamp and for any rank
   pub tokens-10 : opened 10 0 .tokens ≡ whole 10
-  pub want-1 : (now : ℕ) → fresh-want now ≡ one
-  pub relay-rate : (now : ℕ) (rank : Float) → judged buckets (flow.added now) now 0 cost (fills rate rate) rate rank .verdict ≡ RelayRate
+  pub want-1 : (clock : ℕ) → fresh-want clock ≡ one
+  pub relay-rate : (clock : ℕ) (rank : Float) → judged buckets (flow.added clock) clock 0 cost (fills rate rate) rate rank .verdict ≡ RelayRate

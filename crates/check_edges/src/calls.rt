@@ -1,20 +1,25 @@
 // The calls of a row of the table of steps, over the slices lent.
+use check_steps::DONE;
+use check_steps::Tried;
 use flow::DIMS;
 use head::Cause;
 use head::Shedder;
+use store::SourceRow;
+use store::UnitRow;
+use store::UseRow;
 use trial::Trial;
-use check_steps::DONE;
-use check_steps::Tried;
+use wants::Counts;
+use wants::Sums;
 
 fn start(
     row: usize,
     head: Shedder,
     tags: &[u16],
-    units: &[[u64; 7]],
-    uses: &[[f64; 2 * DIMS]],
-    counts: &mut [[u32; 768]; DIMS],
-    sums: &mut [[f64; 768]; DIMS],
-    counted: &[[u64; 8]],
+    units: &[UnitRow],
+    uses: &[UseRow],
+    counts: &mut Counts,
+    sums: &mut Sums,
+    counted: &[SourceRow],
 ) -> Tried {
     let rate = check_steps::amounts(row);
     let none = [0; DIMS];
@@ -30,11 +35,11 @@ fn judge(
     call: u64,
     head: Shedder,
     tags: &mut [u16],
-    units: &mut [[u64; 7]],
-    uses: &mut [[f64; 2 * DIMS]],
-    counts: &mut [[u32; 768]; DIMS],
-    sums: &mut [[f64; 768]; DIMS],
-    counted: &mut [[u64; 8]],
+    units: &mut [UnitRow],
+    uses: &mut [UseRow],
+    counts: &mut Counts,
+    sums: &mut Sums,
+    counted: &mut [SourceRow],
 ) -> Tried {
     if call == 1 {
         return start(row, head, tags, units, uses, counts, sums, counted);
@@ -63,9 +68,9 @@ fn cut(
     row: usize,
     head: Shedder,
     tags: &mut [u16],
-    units: &mut [[u64; 7]],
-    uses: &mut [[f64; 2 * DIMS]],
-    counted: &mut [[u64; 8]],
+    units: &mut [UnitRow],
+    uses: &mut [UseRow],
+    counted: &mut [SourceRow],
 ) -> Tried {
     let who = check_steps::unit(row);
     let cost = check_steps::amounts(row);
@@ -82,9 +87,9 @@ fn report(
     call: u64,
     head: Shedder,
     tags: &[u16],
-    units: &[[u64; 7]],
-    uses: &[[f64; 2 * DIMS]],
-    counted: &[[u64; 8]],
+    units: &[UnitRow],
+    uses: &[UseRow],
+    counted: &[SourceRow],
     out: &mut [u8],
 ) -> Tried {
     let no = report::report_refusal(head, tags, units, uses, counted, out);
@@ -106,7 +111,7 @@ fn report(
 }
 
 // No word of the histogram is 0.
-fn fill(counts: &mut [[u32; 768]; DIMS], sums: &mut [[f64; 768]; DIMS]) -> u64 {
+fn fill(counts: &mut Counts, sums: &mut Sums) -> u64 {
     let some = [4u32; 768];
     *counts = [some; DIMS];
     let sum = [0.5; 768];
@@ -125,11 +130,11 @@ fn line(
     n: u64,
     head: Shedder,
     tags: &mut [u16],
-    units: &mut [[u64; 7]],
-    uses: &mut [[f64; 2 * DIMS]],
-    counts: &mut [[u32; 768]; DIMS],
-    sums: &mut [[f64; 768]; DIMS],
-    counted: &mut [[u64; 8]],
+    units: &mut [UnitRow],
+    uses: &mut [UseRow],
+    counts: &mut Counts,
+    sums: &mut Sums,
+    counted: &mut [SourceRow],
     out: &mut [u8],
 ) -> Tried {
     let lines = b"\
@@ -165,9 +170,9 @@ fn aside(
     call: u64,
     head: Shedder,
     tags: &mut [u16],
-    units: &mut [[u64; 7]],
-    uses: &mut [[f64; 2 * DIMS]],
-    counted: &mut [[u64; 8]],
+    units: &mut [UnitRow],
+    uses: &mut [UseRow],
+    counted: &mut [SourceRow],
     out: &mut [u8],
 ) -> Tried {
     match call {
@@ -182,11 +187,11 @@ pub fn answered(
     row: usize,
     head: Shedder,
     tags: &mut [u16],
-    units: &mut [[u64; 7]],
-    uses: &mut [[f64; 2 * DIMS]],
-    counts: &mut [[u32; 768]; DIMS],
-    sums: &mut [[f64; 768]; DIMS],
-    counted: &mut [[u64; 8]],
+    units: &mut [UnitRow],
+    uses: &mut [UseRow],
+    counts: &mut Counts,
+    sums: &mut Sums,
+    counted: &mut [SourceRow],
     out: &mut [u8],
 ) -> Tried {
     let call = check_steps::letter(row, check_steps::CALL);

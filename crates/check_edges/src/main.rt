@@ -1,12 +1,12 @@
-// Document 01's cases at the edges, run through the real functions: the cases that crate `cases` proves of the definitions, the
-// cases that are only run, and every refusal. Number 9 is not here: entry/proofs/Nine proves that no call is refused by it.
+// Document 01's cases at the edges, run through the real functions: the cases that crate `check_cases` proves of the definitions, the
+// cases that are only run, and every refusal. Number 9 is not here: store_entry/proofs/Nine proves that no call is refused by it.
 mod calls;
 mod steps;
 
-use flow::DIMS;
 use check_steps::COUNTED;
 use check_steps::TAGS;
 use check_steps::UNITS;
+use flow::DIMS;
 
 fn main() {
     check_steps::run();

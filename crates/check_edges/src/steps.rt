@@ -1,23 +1,28 @@
 // A step: the call over so much of the memory as its row lends, with head and memory compared before and after.
 use crate::calls;
-use flow::DIMS;
-use head::Shedder;
 use check_steps::COUNTED;
 use check_steps::OUT;
 use check_steps::TAGS;
 use check_steps::Tried;
 use check_steps::UNITS;
+use flow::DIMS;
+use head::Shedder;
+use store::SourceRow;
+use store::UnitRow;
+use store::UseRow;
+use wants::Counts;
+use wants::Sums;
 
 // The call over so much of each slice as it is to be lent.
 fn lent(
     row: usize,
     head: Shedder,
     tags: &mut [u16],
-    units: &mut [[u64; 7]],
-    uses: &mut [[f64; 2 * DIMS]],
-    counts: &mut [[u32; 768]; DIMS],
-    sums: &mut [[f64; 768]; DIMS],
-    counted: &mut [[u64; 8]],
+    units: &mut [UnitRow],
+    uses: &mut [UseRow],
+    counts: &mut Counts,
+    sums: &mut Sums,
+    counted: &mut [SourceRow],
     out: &mut [u8],
 ) -> Tried {
     let h = check_steps::digit(row, check_steps::TAGS_LENT, tags.len());
@@ -45,8 +50,8 @@ pub fn tried(
     tags: &mut [u16; TAGS],
     units: &mut [[u64; 7]; UNITS],
     uses: &mut [[f64; 2 * DIMS]; UNITS],
-    counts: &mut [[u32; 768]; DIMS],
-    sums: &mut [[f64; 768]; DIMS],
+    counts: &mut Counts,
+    sums: &mut Sums,
     counted: &mut [[u64; 8]; COUNTED],
 ) -> Tried {
     let was_tags = *tags;

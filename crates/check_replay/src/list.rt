@@ -4,6 +4,7 @@ use crate::runs;
 use flow::DIMS;
 use libc::STDIN_FILENO;
 use libc::STDOUT_FILENO;
+use sender::Unit;
 use trial_script::Amounts;
 use trial_script::CutLine;
 use trial_script::FEED;
@@ -13,7 +14,6 @@ use trial_script::LINE_MOST;
 use trial_script::Line;
 use trial_script::StartLine;
 use trial_script::front;
-use sender::Unit;
 
 // The rows that a list may have.
 pub const ROWS: usize = 4096;

@@ -1,15 +1,18 @@
 // A list through `fair_replay::replay`, from a start over memory of zero bits; what is said of it.
+use fair_replay::Replayed;
 use flow::DIMS;
 use libc::STDOUT_FILENO;
-use fair_replay::Replayed;
-use trial_script::Amounts;
-use trial_script::StartLine;
-use trial_script::front;
 use sender::Unit;
+use store::SourceRow;
+use store::UnitRow;
+use store::UseRow;
 use trial::COUNTED;
 use trial::REPORT;
 use trial::TAGS;
 use trial::UNITS;
+use trial_script::Amounts;
+use trial_script::StartLine;
+use trial_script::front;
 
 fn of_dims(a: Amounts) -> [u64; DIMS] {
     [a.receptions, a.bytes]
@@ -56,9 +59,9 @@ fn written(page: &[u8]) -> usize {
 fn say_reports(
     r: Replayed,
     tags: &[u16],
-    units: &[[u64; 7]],
-    uses: &[[f64; 2 * DIMS]],
-    counted: &[[u64; 8]],
+    units: &[UnitRow],
+    uses: &[UseRow],
+    counted: &[SourceRow],
     page: &[u8],
 ) {
     let head = r.head;

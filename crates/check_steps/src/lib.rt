@@ -1,4 +1,4 @@
-// What the program `edges` runs, without the calls over lent memory: the cases that crate `cases` proves of the definitions, the
+// What the program `check_edges` runs, without the calls over lent memory: the cases that crate `check_cases` proves of the definitions, the
 // table of the other steps, the comparison of head and memory, and what is written.
 mod lines;
 mod proved;

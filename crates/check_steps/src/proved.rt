@@ -1,4 +1,4 @@
-// The cases of specs/Cases.antt, in its order, run.
+// The cases of check_cases/specs/Cases, in its order, run.
 ghost use Rattle.flow.specs.Flow.{dims};
 ghost use Prim.Native.Nat.{_<_};
 ghost use Rattle.wants.specs.Wants as wants;
@@ -7,9 +7,9 @@ use flow::Bucket;
 use flow::DIMS;
 use flow::Use;
 use label::LABEL_MOST;
-use trial_script::front;
 use sender::Group;
 use sender::Unit;
+use trial_script::front;
 
 fn hash(unit: Unit) {
     says::hexadecimal(sender::hash_of(unit));

@@ -2,14 +2,14 @@
 use crate::ADMITTED;
 use crate::OVER_SHARE;
 use crate::RELAY_RATE;
-use head::Answer;
-use head::Cause;
-use head::Dim;
-use head::Shedder;
 use codes::bounded_number;
 use codes::level_number;
 use codes::rate_number;
 use codes::reading_number;
+use head::Answer;
+use head::Cause;
+use head::Dim;
+use head::Shedder;
 
 pub fn judge_number(a: Answer) -> u64 {
     match a {

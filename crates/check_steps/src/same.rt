@@ -9,6 +9,8 @@ use head::CAUSES;
 use head::Flow;
 use head::Scan;
 use head::Shedder;
+use wants::Counts;
+use wants::Sums;
 
 // A not-a-number's bits are not to be had: each counts as this word.
 const NAN: u64 = 9221120237041090560;
@@ -206,12 +208,7 @@ fn records(
     tagged(tags, was_tags)
 }
 
-fn histogram(
-    counts: &[[u32; 768]; DIMS],
-    sums: &[[f64; 768]; DIMS],
-    was_counts: &[[u32; 768]; DIMS],
-    was_sums: &[[f64; 768]; DIMS],
-) -> bool {
+fn histogram(counts: &Counts, sums: &Sums, was_counts: &Counts, was_sums: &Sums) -> bool {
     let mut d = 0;
     while d < DIMS {
         if !numbers(&counts[d], &was_counts[d]) {
@@ -240,14 +237,14 @@ pub fn memory(
     tags: &[u16; TAGS],
     units: &[[u64; 7]; UNITS],
     uses: &[[f64; 2 * DIMS]; UNITS],
-    counts: &[[u32; 768]; DIMS],
-    sums: &[[f64; 768]; DIMS],
+    counts: &Counts,
+    sums: &Sums,
     counted: &[[u64; 8]; COUNTED],
     was_tags: &[u16; TAGS],
     was_units: &[[u64; 7]; UNITS],
     was_uses: &[[f64; 2 * DIMS]; UNITS],
-    was_counts: &[[u32; 768]; DIMS],
-    was_sums: &[[f64; 768]; DIMS],
+    was_counts: &Counts,
+    was_sums: &Sums,
     was_counted: &[[u64; 8]; COUNTED],
 ) -> bool {
     records(tags, units, uses, was_tags, was_units, was_uses)

@@ -37,7 +37,7 @@ const WIDTH: usize = 20;
 
 const ROWS: usize = 110;
 
-// A row has: the call, a letter, as edges/calls reads it; the unit, g for a group, else the one with no address; the part
+// A row has: the call, a letter, as check_edges/src/calls reads it; the unit, g for a group, else the one with no address; the part
 // of the head that is unfit, as unfit reads it; how many tags, units, uses and counted sources are
 // lent; and as letters of VALUES how many bytes of the report's buffer, the amounts (a start's rates, else a cost) and
 // the stamp. The last says what is written: f, r, i, a, v of a case that is run, t of a call that is refused, b of a

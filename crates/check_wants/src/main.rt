@@ -6,6 +6,8 @@ use flow::DIMS;
 use libc::STDIN_FILENO;
 use libc::STDOUT_FILENO;
 use wants::BUCKETS;
+use wants::Counts;
+use wants::Sums;
 
 const SIGN: u64 = 9223372036854775808;
 
@@ -72,12 +74,7 @@ impl Replay {
         self.fails()
     }
 
-    fn added(
-        self,
-        counts: &mut [[u32; BUCKETS]; DIMS],
-        sums: &mut [[f64; BUCKETS]; DIMS],
-        dim: usize,
-    ) -> Self {
+    fn added(self, counts: &mut Counts, sums: &mut Sums, dim: usize) -> Self {
         if dim < DIMS {
             wants::add(counts, sums, dim, double_of(self.fields[1]));
             return self;
@@ -85,13 +82,7 @@ impl Replay {
         self.fails()
     }
 
-    fn set(
-        self,
-        counts: &mut [[u32; BUCKETS]; DIMS],
-        sums: &mut [[f64; BUCKETS]; DIMS],
-        dim: usize,
-        at: usize,
-    ) -> Self {
+    fn set(self, counts: &mut Counts, sums: &mut Sums, dim: usize, at: usize) -> Self {
         let n = self.fields[2];
         if dim < DIMS {
             if at < BUCKETS {
@@ -105,12 +96,7 @@ impl Replay {
         self.fails()
     }
 
-    fn level(
-        mut self,
-        counts: &[[u32; BUCKETS]; DIMS],
-        sums: &[[f64; BUCKETS]; DIMS],
-        dim: usize,
-    ) -> Self {
+    fn level(mut self, counts: &Counts, sums: &Sums, dim: usize) -> Self {
         if dim < DIMS {
             let rate = double_of(self.fields[1]);
             if bits_of(wants::level(counts, sums, dim, rate)) == self.fields[2] {
@@ -122,7 +108,7 @@ impl Replay {
     }
 
     // A whole line.
-    fn ended(self, counts: &mut [[u32; BUCKETS]; DIMS], sums: &mut [[f64; BUCKETS]; DIMS]) -> Self {
+    fn ended(self, counts: &mut Counts, sums: &mut Sums) -> Self {
         let letter = self.letter;
         let dim = self.fields[0] as usize;
         let at = self.fields[1] as usize;
@@ -178,12 +164,7 @@ impl Replay {
         self.fails()
     }
 
-    fn step(
-        self,
-        byte: u8,
-        counts: &mut [[u32; BUCKETS]; DIMS],
-        sums: &mut [[f64; BUCKETS]; DIMS],
-    ) -> Self {
+    fn step(self, byte: u8, counts: &mut Counts, sums: &mut Sums) -> Self {
         if byte == b'\n' {
             return self.ended(counts, sums).next_line();
         }
@@ -191,12 +172,7 @@ impl Replay {
     }
 }
 
-fn run(
-    replay: Replay,
-    bytes: &[u8],
-    counts: &mut [[u32; BUCKETS]; DIMS],
-    sums: &mut [[f64; BUCKETS]; DIMS],
-) -> Replay {
+fn run(replay: Replay, bytes: &[u8], counts: &mut Counts, sums: &mut Sums) -> Replay {
     let mut now_at = replay;
     let mut i = 0;
     while i < bytes.len() {

@@ -4,6 +4,7 @@ use mathlib.Core.Bool.{cond}
 use Prim.Native.Nat.{ℕ}
 use lib.Dec.{eqb}
 use lib.Ieee.{binary64, ofBits}
+use Rattle.flow.specs.Flow.{«UNBOUNDED»}
 use Rattle.head.specs.declared.Answer.{Answer}
 use Rattle.head.specs.declared.Answer.the-variants as answer
 use Rattle.head.specs.declared.Cause.{Cause}
@@ -50,9 +51,9 @@ unfoldable pub read-level : LevelRead → Level
 read-level (level-reads.Level x) = record { refusal = 0; value = x }
 read-level (level-reads.Refused n) = record { refusal = n; value = ofBits binary64 0 }
 
--- no limit is u64::MAX, the number that a start takes for it
+-- no limit is the number that a start takes for it
 unfoldable pub read-rate : RateRead → Count
-read-rate rate-reads.Unbounded = count 0 18446744073709551615
+read-rate rate-reads.Unbounded = count 0 «UNBOUNDED»
 read-rate (rate-reads.PerSecond x) = count 0 x
 read-rate (rate-reads.Refused n) = count n 0
 

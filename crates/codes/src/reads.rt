@@ -43,7 +43,7 @@ pub fn read_rate(answer: RateRead) -> Count
     ensures { λ r. ⌜ r ≡ numbers.read-rate answer ⌝ }
 {
     match answer {
-        RateRead::Unbounded => count(0, 18446744073709551615),
+        RateRead::Unbounded => count(0, flow::UNBOUNDED),
         RateRead::PerSecond(x) => count(0, x),
         RateRead::Refused(n) => count(n, 0),
     }

@@ -16,6 +16,9 @@ use head::Flow;
 use head::Shedder;
 use sender::Name;
 use sender::Unit;
+use store::SourceRow;
+use store::UnitRow;
+use store::UseRow;
 
 // What a cut answers, and the head after it.
 pub struct Cutting {
@@ -69,8 +72,8 @@ fn flowed_back(f: Flow, cost: [f64; DIMS]) -> Flow
 fn handed_back(
     head: Shedder,
     tags: &mut [u16],
-    units: &mut [[u64; 7]],
-    uses: &mut [[f64; 2 * DIMS]],
+    units: &mut [UnitRow],
+    uses: &mut [UseRow],
     unit: Unit,
     name: Name,
     i: usize,
@@ -82,7 +85,8 @@ fn handed_back(
     requires { ⌜ head .tracked ≤ head .«unit_room» ⌝ }
     requires { ⌜ name ≡ sender.name-of unit ⌝ }
     requires { ⌜ i ≡ store.find (now tags) (now units) name (head .tracked) ⌝ }
-    ensures { λ r. ⌜ cutting.kept-by r (store.rows (now (tags .exit)) (now (units .exit)) (now (uses .exit))) ≡ cutting.handed-back (cutting.kept-by head (store.rows (now (tags .entry)) (now (units .entry)) (now (uses .entry)))) unit cost ⌝ }
+    ensures { λ r. ⌜ cutting.kept-by r (store.rows (now (tags .exit)) (now (units .exit)) (now (uses .exit)))
+        ≡ cutting.handed-back (cutting.kept-by head (store.rows (now (tags .entry)) (now (units .entry)) (now (uses .entry)))) unit cost ⌝ }
     ensures { λ r. ⌜ r .counted ≡ head .counted ⌝ }
     ensures { λ r. ⌜ r .«unit_room» ≡ head .«unit_room» ⌝ }
 {
@@ -116,7 +120,7 @@ fn handed_back(
 fn noted(
     head: Shedder,
     tags: &mut [u16],
-    counted: &mut [[u64; 8]],
+    counted: &mut [SourceRow],
     name: Name,
     cause: Cause,
     cost: [u64; DIMS],
@@ -137,15 +141,18 @@ fn noted(
 pub fn cut(
     head: Shedder,
     tags: &mut [u16],
-    units: &mut [[u64; 7]],
-    uses: &mut [[f64; 2 * DIMS]],
-    counted: &mut [[u64; 8]],
+    units: &mut [UnitRow],
+    uses: &mut [UseRow],
+    counted: &mut [SourceRow],
     unit: Unit,
     cause: Cause,
     cost: [u64; DIMS],
 ) -> Cutting
-    ensures { λ r. ⌜ Same-but-nan-bits (cutting.cutting r (store.rows (now (tags .exit)) (now (units .exit)) (now (uses .exit))) (now (counted .exit))) (cutting.cut head (store.rows (now (tags .entry)) (now (units .entry)) (now (uses .entry))) (now (counted .entry)) unit cause cost) ⌝ }
-    ensures { λ r. ⌜ answers.cut-number (r .answer) ≡ asked.cut-asked head (length (now (tags .entry))) (length (now (units .entry))) (length (now (uses .entry))) (length (now (counted .entry))) cost ⌝ }
+    ensures { λ r. ⌜ Same-but-nan-bits
+        (cutting.cutting r (store.rows (now (tags .exit)) (now (units .exit)) (now (uses .exit))) (now (counted .exit)))
+        (cutting.cut head (store.rows (now (tags .entry)) (now (units .entry)) (now (uses .entry))) (now (counted .entry)) unit cause cost) ⌝ }
+    ensures { λ r. ⌜ answers.cut-number (r .answer)
+        ≡ asked.cut-asked head (length (now (tags .entry))) (length (now (units .entry))) (length (now (uses .entry))) (length (now (counted .entry))) cost ⌝ }
 {
     let no = head::cut_asked(
         head,

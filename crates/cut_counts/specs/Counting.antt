@@ -75,5 +75,5 @@ tallied t name cause receptions =
     tallied-by t cause receptions (sourced (t .head .«unit_room») (t .tags) (t .counted) (t .head .counted) name cause)
 
 -- a verdict that cuts is counted
-unfoldable pub told : Tally → Name → Verdict → List ℕ → Tally
-told t name v cost = cond (is-admitted v) t (tallied t name (cause-of v) (getD cost 0 0))
+unfoldable pub count-verdict : Tally → Name → Verdict → List ℕ → Tally
+count-verdict t name v cost = cond (is-admitted v) t (tallied t name (cause-of v) (getD cost 0 0))

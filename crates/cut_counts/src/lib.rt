@@ -2,17 +2,19 @@
 ghost use mathlib.Core.Path.{_≡_};
 ghost use Prim.Native.Nat.{_<_, _+_};
 ghost use lib.ListN.{length};
+ghost use Rattle.store.specs.Store as store;
 ghost use Rattle.cut_counts.specs.Counting as counting;
 use flow::DIMS;
-use head::CAUSES;
 use head::Shedder;
 use sender::Name;
+use store::CAUSES;
+use store::SourceRow;
 use verdict::Verdict;
 
 // A cause's place among the counts.
 fn cause_of(verdict: Verdict) -> usize
     ensures { λ r. ⌜ r ≡ counting.cause-of verdict ⌝ }
-    ensures { λ r. ⌜ r < 3 ⌝ }
+    ensures { λ r. ⌜ r < store.«CAUSES» ⌝ }
 {
     match verdict {
         Verdict::Admitted => 0,
@@ -22,7 +24,7 @@ fn cause_of(verdict: Verdict) -> usize
 }
 
 fn upped(mut xs: [u64; CAUSES], k: usize, by: u64) -> [u64; CAUSES]
-    requires { ⌜ k < 3 ⌝ }
+    requires { ⌜ k < store.«CAUSES» ⌝ }
     ensures { λ r. ⌜ r ≡ counting.upped xs k by ⌝ }
 {
     xs[k] = std::num::wrapping_add_u64(xs[k], by);
@@ -31,7 +33,7 @@ fn upped(mut xs: [u64; CAUSES], k: usize, by: u64) -> [u64; CAUSES]
 
 // One batch and its receptions more for a cause; so many sources are counted.
 fn added(h: Shedder, n: usize, cause: usize, receptions: u64) -> Shedder
-    requires { ⌜ cause < 3 ⌝ }
+    requires { ⌜ cause < store.«CAUSES» ⌝ }
     ensures { λ r. ⌜ r ≡ counting.added h n cause receptions ⌝ }
 {
     let b = h.batches;
@@ -49,7 +51,7 @@ fn added(h: Shedder, n: usize, cause: usize, receptions: u64) -> Shedder
 // then. The head stays outside, since it would be copied.
 fn sourced(
     tags: &mut [u16],
-    counted: &mut [[u64; 8]],
+    counted: &mut [SourceRow],
     room: usize,
     had: usize,
     name: Name,
@@ -57,7 +59,7 @@ fn sourced(
 ) -> usize
     requires { ⌜ room + had < length (now tags) ⌝ }
     requires { ⌜ had < length (now counted) ⌝ }
-    requires { ⌜ cause < 3 ⌝ }
+    requires { ⌜ cause < store.«CAUSES» ⌝ }
     ensures { λ r. ⌜ counting.sources r (now (tags .exit)) (now (counted .exit)) ≡ counting.sourced room (now (tags .entry)) (now (counted .entry)) had name cause ⌝ }
 {
     let n = cut_sources::count(&mut tags[room..], counted, had, name, cause);
@@ -68,14 +70,14 @@ fn sourced(
 pub fn tallied(
     h: Shedder,
     tags: &mut [u16],
-    counted: &mut [[u64; 8]],
+    counted: &mut [SourceRow],
     name: Name,
     cause: usize,
     receptions: u64,
 ) -> Shedder
     requires { ⌜ h .«unit_room» + h .counted < length (now tags) ⌝ }
     requires { ⌜ h .counted < length (now counted) ⌝ }
-    requires { ⌜ cause < 3 ⌝ }
+    requires { ⌜ cause < store.«CAUSES» ⌝ }
     ensures { λ r. ⌜ counting.tally r (now (tags .exit)) (now (counted .exit)) ≡ counting.tallied (counting.tally h (now (tags .entry)) (now (counted .entry))) name cause receptions ⌝ }
     ensures { λ r. ⌜ r .tracked ≡ h .tracked ⌝ }
     ensures { λ r. ⌜ r .scan ≡ h .scan ⌝ }
@@ -86,17 +88,17 @@ pub fn tallied(
 
 // A verdict that cuts is counted. As in `tallied`, which is written out here: called from two crates it would not be inlined,
 // and an admission would copy the head for a call that it does not make.
-pub fn told(
+pub fn count_verdict(
     h: Shedder,
     tags: &mut [u16],
-    counted: &mut [[u64; 8]],
+    counted: &mut [SourceRow],
     name: Name,
     verdict: Verdict,
     cost: [u64; DIMS],
 ) -> Shedder
     requires { ⌜ h .«unit_room» + h .counted < length (now tags) ⌝ }
     requires { ⌜ h .counted < length (now counted) ⌝ }
-    ensures { λ r. ⌜ counting.tally r (now (tags .exit)) (now (counted .exit)) ≡ counting.told (counting.tally h (now (tags .entry)) (now (counted .entry))) name verdict cost ⌝ }
+    ensures { λ r. ⌜ counting.tally r (now (tags .exit)) (now (counted .exit)) ≡ counting.count-verdict (counting.tally h (now (tags .entry)) (now (counted .entry))) name verdict cost ⌝ }
     ensures { λ r. ⌜ r .tracked ≡ h .tracked ⌝ }
     ensures { λ r. ⌜ r .scan ≡ h .scan ⌝ }
 {

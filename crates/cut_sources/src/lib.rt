@@ -9,13 +9,15 @@ mod totals;
 
 use sender::Name;
 use sender::Words;
+use store::CAUSES;
+use store::SourceRow;
 use store::same;
 use totals::keep_from;
 pub use totals::total_at;
 
 // ---- a counted source: a tag, and a row of kind, four words, three counts
 
-pub fn counted_words(counted: &[[u64; 8]], i: usize) -> Words
+pub fn counted_words(counted: &[SourceRow], i: usize) -> Words
     requires { ⌜ i < length (now counted) ⌝ }
     ensures { λ r. ⌜ r ≡ store.words-at (now (counted .entry)) i ⌝ }
 {
@@ -30,7 +32,7 @@ pub fn counted_words(counted: &[[u64; 8]], i: usize) -> Words
 }
 
 // A source's counts of receiver-ceiling, over-share and relay-rate.
-pub fn counts_at(counted: &[[u64; 8]], i: usize) -> [u64; 3]
+pub fn counts_at(counted: &[SourceRow], i: usize) -> [u64; CAUSES]
     requires { ⌜ i < length (now counted) ⌝ }
     ensures { λ r. ⌜ r ≡ counts.counts-at (now (counted .entry)) i ⌝ }
 {
@@ -39,7 +41,7 @@ pub fn counts_at(counted: &[[u64; 8]], i: usize) -> [u64; 3]
 }
 
 // Whether the words are those of the unit that the row reads as.
-fn reads_as(counted: &[[u64; 8]], i: usize, w: Words) -> bool
+fn reads_as(counted: &[SourceRow], i: usize, w: Words) -> bool
     requires { ⌜ i < length (now counted) ⌝ }
     ensures { λ r. ⌜ r ≡ counts.reads-as (now (counted .entry)) w i ⌝ }
 {
@@ -48,7 +50,7 @@ fn reads_as(counted: &[[u64; 8]], i: usize, w: Words) -> bool
 }
 
 // The first of n sources that is the unit's, else n. Its tag is sought, so that a search reads 2 bytes a source.
-fn counted_find(tags: &[u16], counted: &[[u64; 8]], n: usize, name: Name) -> usize
+fn counted_find(tags: &[u16], counted: &[SourceRow], n: usize, name: Name) -> usize
     requires { ⌜ n ≤ length (now tags) ⌝ }
     requires { ⌜ n ≤ length (now counted) ⌝ }
     ensures { λ r. ⌜ r ≡ counts.counted-find (now (tags .entry)) (now (counted .entry)) name n ⌝ }
@@ -65,9 +67,9 @@ fn counted_find(tags: &[u16], counted: &[[u64; 8]], n: usize, name: Name) -> usi
 }
 
 // One more for a cause.
-fn counted_up(counted: &mut [[u64; 8]], i: usize, cause: usize)
+fn counted_up(counted: &mut [SourceRow], i: usize, cause: usize)
     requires { ⌜ i < length (now counted) ⌝ }
-    requires { ⌜ cause < 3 ⌝ }
+    requires { ⌜ cause < store.«CAUSES» ⌝ }
     ensures { λ r. ⌜ now (counted .exit) ≡ counts.counted-up (now (counted .entry)) i cause ⌝ }
 {
     let mut row = counted[i];
@@ -76,7 +78,7 @@ fn counted_up(counted: &mut [[u64; 8]], i: usize, cause: usize)
     counted[i] = row;
 }
 
-fn counted_add(counted: &mut [[u64; 8]], i: usize, w: Words)
+fn counted_add(counted: &mut [SourceRow], i: usize, w: Words)
     requires { ⌜ i < length (now counted) ⌝ }
     ensures { λ r. ⌜ now (counted .exit) ≡ counts.counted-add (now (counted .entry)) i w ⌝ }
 {
@@ -86,14 +88,14 @@ fn counted_add(counted: &mut [[u64; 8]], i: usize, w: Words)
 // Of n sources, the unit's count for a cause is one more; how many sources there are then.
 pub fn count(
     tags: &mut [u16],
-    counted: &mut [[u64; 8]],
+    counted: &mut [SourceRow],
     n: usize,
     name: Name,
     cause: usize,
 ) -> usize
     requires { ⌜ n < length (now tags) ⌝ }
     requires { ⌜ n < length (now counted) ⌝ }
-    requires { ⌜ cause < 3 ⌝ }
+    requires { ⌜ cause < store.«CAUSES» ⌝ }
     ensures { λ r. ⌜ counts.sources r (now (counted .exit)) ≡ counts.count (now (tags .entry)) (now (counted .entry)) n name cause ⌝ }
     ensures { λ r. ⌜ now (tags .exit) ≡ counts.count-tags (now (tags .entry)) (now (counted .entry)) n name ⌝ }
     ensures { λ r. ⌜ r ≤ n + 1 ⌝ }
@@ -113,7 +115,7 @@ pub fn count(
 // ---- leaving out the least counted
 
 // The source at i: moved to j, the end of those kept, where its total is above k, else freed.
-fn prune_one(tags: &mut [u16], counted: &mut [[u64; 8]], i: usize, j: usize, k: u64) -> usize
+fn prune_one(tags: &mut [u16], counted: &mut [SourceRow], i: usize, j: usize, k: u64) -> usize
     requires { ⌜ i < length (now tags) ⌝ }
     requires { ⌜ i < length (now counted) ⌝ }
     requires { ⌜ j ≤ i ⌝ }
@@ -136,7 +138,7 @@ fn prune_one(tags: &mut [u16], counted: &mut [[u64; 8]], i: usize, j: usize, k: 
 }
 
 // Of n sources those above k stay, in their order; freed places become 0.
-fn prune(tags: &mut [u16], counted: &mut [[u64; 8]], n: usize, k: u64) -> usize
+fn prune(tags: &mut [u16], counted: &mut [SourceRow], n: usize, k: u64) -> usize
     requires { ⌜ n ≤ length (now tags) ⌝ }
     requires { ⌜ n ≤ length (now counted) ⌝ }
     ensures { λ r. ⌜ counts.sources r (now (counted .exit)) ≡ counts.prune (now (counted .entry)) k n ⌝ }
@@ -153,7 +155,7 @@ fn prune(tags: &mut [u16], counted: &mut [[u64; 8]], n: usize, k: u64) -> usize
 }
 
 // Where the spare row is taken too, the least counted are left out; then at least one row is free again.
-pub fn pruned(tags: &mut [u16], counted: &mut [[u64; 8]], n: usize) -> usize
+pub fn pruned(tags: &mut [u16], counted: &mut [SourceRow], n: usize) -> usize
     requires { ⌜ n ≤ length (now tags) ⌝ }
     requires { ⌜ n ≤ length (now counted) ⌝ }
     ensures { λ r. ⌜ counts.sources r (now (counted .exit)) ≡ counts.pruned (counts.sources n (now (counted .entry))) ⌝ }

@@ -4,9 +4,10 @@ ghost use Prim.Native.Nat.{_<_, _≤_, _+_, _^_, max};
 ghost use lib.ListN.{length};
 ghost use Rattle.cut_sources.specs.Sorted as sorted;
 ghost use Rattle.cut_sources.specs.Counted as counts;
+use store::SourceRow;
 
 // The sum of a source's three counts, which wraps.
-pub fn total_at(counted: &[[u64; 8]], i: usize) -> u64
+pub fn total_at(counted: &[SourceRow], i: usize) -> u64
     requires { ⌜ i < length (now counted) ⌝ }
     ensures { λ r. ⌜ r ≡ counts.total-at (now (counted .entry)) i ⌝ }
 {
@@ -23,7 +24,7 @@ fn one_if(n: usize, yes: bool) -> usize
 }
 
 // How many of n totals are below x.
-fn below(counted: &[[u64; 8]], n: usize, x: u64) -> usize
+fn below(counted: &[SourceRow], n: usize, x: u64) -> usize
     requires { ⌜ n ≤ length (now counted) ⌝ }
     ensures { λ r. ⌜ r ≡ sorted.below x (counts.totals (now (counted .entry)) n) ⌝ }
 {
@@ -43,7 +44,7 @@ fn larger(a: u64, b: u64) -> u64
 }
 
 // The highest of n totals.
-fn highest(counted: &[[u64; 8]], n: usize) -> u64
+fn highest(counted: &[SourceRow], n: usize) -> u64
     requires { ⌜ n ≤ length (now counted) ⌝ }
     ensures { λ r. ⌜ r ≡ sorted.highest (counts.totals (now (counted .entry)) n) ⌝ }
 {
@@ -58,7 +59,7 @@ fn highest(counted: &[[u64; 8]], n: usize) -> u64
 
 // Of n totals, ascending, the one at index n / 4: the largest x with no more than n / 4 totals below it. It is searched
 // for by halves between 0 and the highest total, so that nothing is sorted: at most 64 passes.
-pub fn keep_from(counted: &[[u64; 8]], n: usize) -> u64
+pub fn keep_from(counted: &[SourceRow], n: usize) -> u64
     requires { ⌜ n ≤ length (now counted) ⌝ }
     ensures { λ r. ⌜ r ≡ counts.keep-from (counts.totals (now (counted .entry)) n) ⌝ }
 {

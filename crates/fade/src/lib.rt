@@ -1,14 +1,17 @@
-// The fade: exp(-d / 2000) after d milliseconds, as the rounded product of two entries, one of each table. From the end of the tables on it is 0.
+// The fade: exp(-d / WINDOW_MS) after d milliseconds, as the rounded product of two entries, one of each table. From the end of the tables on it is 0.
 ghost use mathlib.Core.Path.{_≡_};
 ghost use Prim.Native.Nat.{_<_};
 ghost use Rattle.fade.specs.Fade as spec;
 
 mod tables;
 
-// Entry r of A: the double nearest exp(-r / 2000).
+// The span of stamps that a rate is measured over: a sum fades to 1 / e in it.
+pub const WINDOW_MS: u64 = 2000;
+
+// Entry r of A: the double nearest exp(-r / WINDOW_MS).
 fn short(r: u64) -> f64
-    requires { ⌜ r < 2000 ⌝ }
-    ensures { λ x. ⌜ x ≡ spec.nearest r 2000 ⌝ }
+    requires { ⌜ r < spec.«WINDOW_MS» ⌝ }
+    ensures { λ x. ⌜ x ≡ spec.nearest r spec.«WINDOW_MS» ⌝ }
 {
     let row = tables::row_of_a(r / tables::WIDTH_A);
     f64::from_bits(row[(r % tables::WIDTH_A) as usize])
@@ -27,7 +30,7 @@ pub fn fade(d: u64) -> f64
     ensures { λ r. ⌜ r ≡ spec.fade d ⌝ }
 {
     if d < tables::END {
-        short(d % 2000) * far(d / 2000)
+        short(d % WINDOW_MS) * far(d / WINDOW_MS)
     } else {
         0.0
     }

@@ -10,7 +10,7 @@ ghost use Rattle.fade.specs.Fade as spec;
 const LONG: u64 = 64;
 
 // The tables end at these milliseconds.
-pub const END: u64 = 2000 * LONG;
+pub const END: u64 = super::WINDOW_MS * LONG;
 
 // The entries of a row of A, and of B.
 pub const WIDTH_A: u64 = 10;

@@ -3,7 +3,8 @@
 use mathlib.Core.Path.{_≡_, sym, ap, ap₂, _∙_, subst}
 use mathlib.Core.Bool.{true, false}
 use Prim.Native.Nat.{ℕ, suc, _+_, _*_, _^_, _≤_, _<_}
-use native.Mathlib.Nat.{le-trans, le-of-eq, lt-of-lt-of-le, lt-of-le-of-lt, zero-lt-suc, mul-add, mul-suc, mul-comm, mul-assoc, mul-left-comm, mul-right-comm, mul-one, one-mul, pow-zero, pow-suc, mul-pos, mul-le-mul, mul-le-mul-left, mul-le-mul-right, le-of-mul-le-mul-right, lt-of-mul-lt-mul-right, mul-lt-mul-of-pos-right}
+use native.Mathlib.Nat.{le-trans, le-of-eq, lt-of-lt-of-le, lt-of-le-of-lt, zero-lt-suc, mul-le-mul, mul-le-mul-left, mul-le-mul-right, le-of-mul-le-mul-right, lt-of-mul-lt-mul-right, mul-lt-mul-of-pos-right}
+use native.Mathlib.Nat.{mul-add, mul-suc, mul-comm, mul-assoc, mul-left-comm, mul-right-comm, mul-one, one-mul, pow-zero, pow-suc, mul-pos}
 use native.Mathlib.Omega.{arith}
 use lib.Dec.{T, lt→ltb}
 use lib.Ieee.{Float, nan, inf, fin, lt, up, down}

@@ -2,7 +2,8 @@
 -- bound stands above every sum. And p / q may be written with a common factor. Assumes nothing.
 use mathlib.Core.Path.{_≡_, refl, sym, ap, ap₂, _∙_, subst}
 use Prim.Native.Nat.{ℕ, zero, suc, _+_, _*_, _^_, _≤_, _<_}
-use native.Mathlib.Nat.{le-trans, le-of-eq, le-add-right, zero-lt-suc, add-zero, add-comm, add-suc, add-assoc, mul-add, add-mul, mul-comm, mul-assoc, mul-left-comm, mul-right-comm, mul-mul-mul-comm, mul-one, pow-zero, pow-suc, mul-pos, mul-le-mul-left, mul-le-mul-right, le-suc, lt-of-le-of-lt, lt-of-lt-of-le, mul-lt-mul-of-pos-right, mul-lt-mul-of-pos-left, lt-of-mul-lt-mul-right, one-le-pow, lt-suc-self, mul-zero}
+use native.Mathlib.Nat.{le-trans, le-of-eq, le-add-right, zero-lt-suc, mul-le-mul-left, mul-le-mul-right, le-suc, lt-of-le-of-lt, lt-of-lt-of-le, mul-lt-mul-of-pos-right, mul-lt-mul-of-pos-left, lt-of-mul-lt-mul-right, one-le-pow, lt-suc-self}
+use native.Mathlib.Nat.{add-zero, add-comm, add-suc, add-assoc, mul-add, add-mul, mul-comm, mul-assoc, mul-left-comm, mul-right-comm, mul-mul-mul-comm, mul-one, pow-zero, pow-suc, mul-pos, mul-zero}
 use native.Mathlib.Omega.{arith}
 use lib.Ieee.Positive.{through}
 use Rattle.fade.specs.Exp.{top, bot, cap, Late}

@@ -1,25 +1,41 @@
 -- The shedder's float core: the token bucket and one unit's use. Each function of src/ has its definition here for its contract.
 -- A value with a part for each dimension is a list; its parts are given by a function of the dimension, so that the number of dimensions stands only in `dims`. Definitions only.
 use Prim.Native.Nat.{ℕ, zero, suc, _-_, _^_, min, max}
-use mathlib.Core.Bool.{Bool, true, false, _&&_, cond, not}
+use mathlib.Core.Bool.{Bool, true, _&&_, cond, not}
 use mathlib.Core.List.{List}
 use lib.Dec.{eqb}
-use lib.IntN.{pos}
 use lib.ListN.{getD, set, replicate}
 use lib.Ieee as Ieee
-use lib.Ieee.{Float, binary64, ofBits, ofInt}
+use lib.Ieee.{Float}
 use Rattle.ieee.specs.Doubles.{_⊕_, _⊖_, _⊗_, _⊘_, nothing, one, two, four, thousand, whole}
 use Rattle.ieee.specs.Extremes.{least, most}
 use Rattle.fade.specs.Fade.{fade}
+pub use Rattle.fade.specs.Fade.{«WINDOW_MS»}
 use Rattle.flow.specs.declared.Bucket.{Bucket}
 use Rattle.flow.specs.declared.Use.{Use}
 
 abbrev pub dims : ℕ
 dims = 2
 
+-- the window in seconds: a rate is a faded sum over it
+abbrev pub «WINDOW_SECS» : Float
+«WINDOW_SECS» = two
+
+-- the seconds of its fill that a unit's credit holds
+abbrev pub «CREDIT_SECS» : Float
+«CREDIT_SECS» = four
+
+-- a rate that bounds nothing, u64::MAX
+abbrev pub «UNBOUNDED» : ℕ
+«UNBOUNDED» = 18446744073709551615
+
+-- the highest rate, and the most of a ceiling that a burst holds
+abbrev pub «RATE_MOST» : ℕ
+«RATE_MOST» = 2 ^ 40
+
 -- ---- the bucket
 abbrev pub burst-of : ℕ → ℕ → Float
-burst-of rate ceiling = most (most (whole rate) (whole (min ceiling (2 ^ 40)))) one
+burst-of rate ceiling = most (most (whole rate) (whole (min ceiling «RATE_MOST»))) one
 
 abbrev pub opened : ℕ → ℕ → Bucket
 opened rate ceiling = record { tokens = burst-of rate ceiling; burst = burst-of rate ceiling; «rate_per_ms» = whole rate ⊘ thousand }
@@ -48,7 +64,7 @@ is-fresh mark = not (eqb mark 0)
 -- full for a fresh unit, else what it held, filled for `idle` milliseconds, and no more than full
 abbrev pub credit-of : Bool → Float → Float → ℕ → Float
 credit-of fresh credit fill idle =
-    cond fresh (fill ⊗ four) (least (credit ⊕ fill ⊗ seconds idle) (fill ⊗ four))
+    cond fresh (fill ⊗ «CREDIT_SECS») (least (credit ⊕ fill ⊗ seconds idle) (fill ⊗ «CREDIT_SECS»))
 
 -- after a hand-back: no cap until the next judgement
 abbrev pub credit-back : Float → Float → Float
@@ -88,7 +104,7 @@ all p (suc n) = all p n && p n
 
 -- ---- a unit's use
 abbrev pub added : ℕ → Use
-added now = record { attempted = replicate dims nothing; credit = replicate dims nothing; «at_ms» = now; fresh = 1 }
+added clock = record { attempted = replicate dims nothing; credit = replicate dims nothing; «at_ms» = clock; fresh = 1 }
 
 -- with other credit
 abbrev pub holding : Use → List Float → Use
@@ -99,14 +115,14 @@ abbrev pub trying : Use → List Float → Use
 trying u attempted = record { attempted = attempted; credit = u .credit; «at_ms» = u .«at_ms»; fresh = u .fresh }
 
 abbrev pub credited : Use → ℕ → List Float → Use
-credited u now fill = holding u (each (λ (d : ℕ). credit-of (is-fresh (u .fresh)) (at (u .credit) d) (at fill d) (now - u .«at_ms»)) (u .credit))
+credited u clock fill = holding u (each (λ (d : ℕ). credit-of (is-fresh (u .fresh)) (at (u .credit) d) (at fill d) (clock - u .«at_ms»)) (u .credit))
 
 -- the sums, faded for the time since the last judgement
 abbrev pub fade-to : Use → ℕ → Use
-fade-to u now = record {
-  attempted = each (λ (d : ℕ). at (u .attempted) d ⊗ fade (now - u .«at_ms»)) (u .attempted);
+fade-to u clock = record {
+  attempted = each (λ (d : ℕ). at (u .attempted) d ⊗ fade (clock - u .«at_ms»)) (u .attempted);
   credit = u .credit;
-  «at_ms» = max (u .«at_ms») now;
+  «at_ms» = max (u .«at_ms») clock;
   fresh = u .fresh;
 }
 
@@ -119,9 +135,9 @@ tried u cost = record {
   fresh = 0;
 }
 
--- what a unit attempts a second: its sums faded to `t`, over the window of 2 seconds
+-- what a unit attempts a second: its sums faded to `t`, over the window
 unfoldable pub rates : Use → ℕ → List Float
-rates u t = upto (λ (d : ℕ). at (u .attempted) d ⊗ fade (t - u .«at_ms») ⊘ two) dims zeros
+rates u t = upto (λ (d : ℕ). at (u .attempted) d ⊗ fade (t - u .«at_ms») ⊘ «WINDOW_SECS») dims zeros
 
 abbrev pub charged : Use → List Float → Use
 charged u cost = holding u (each (λ (d : ℕ). at (u .credit) d ⊖ at cost d) (u .credit))

@@ -1,11 +1,26 @@
 // The float core of a judgement, by value: the token bucket and a unit's use. The want and the decision are in `verdict`. No store is known here.
 ghost use mathlib.Core.Path.{_≡_};
-ghost use Prim.Native.Nat.{_^_, _-_, min, max};
+ghost use Prim.Native.Nat.{_-_, min, max};
 ghost use Rattle.ieee.specs.Doubles.{whole};
 ghost use Rattle.flow.specs.Flow as flow;
+pub use fade::WINDOW_MS;
 
 // Receptions and bytes. Every loop, array and law goes over this number.
 pub const DIMS: usize = 2;
+
+// The window in seconds: a rate is a faded sum over it.
+pub const WINDOW_SECS: f64 = 2.0;
+
+// The seconds of its fill that a unit's credit holds: its depth.
+pub const CREDIT_SECS: f64 = 4.0;
+
+// A rate that bounds nothing, u64::MAX, and the double nearest to it, 2^64.
+pub const UNBOUNDED: u64 = 18446744073709551615;
+
+const UNBOUNDED_RATE: f64 = 18446744073709551616.0;
+
+// The highest rate, and the most of a ceiling that a burst holds.
+pub const RATE_MOST: u64 = 1 << 40;
 
 #[repr(C)]
 pub struct Bucket {
@@ -33,12 +48,12 @@ pub fn whole(n: u64) -> f64
     std::num::nearest_u64_to_f64(n)
 }
 
-// A rate or a cost as a double. The unbounded rate is the constant 2^64, the double nearest to it.
+// A rate or a cost as a double. The unbounded rate is a constant.
 pub fn per_second(rate: u64) -> f64
     ensures { λ r. ⌜ r ≡ whole rate ⌝ }
 {
-    if rate == 18446744073709551615 {
-        18446744073709551616.0
+    if rate == UNBOUNDED {
+        UNBOUNDED_RATE
     } else {
         whole(rate)
     }
@@ -71,10 +86,10 @@ pub fn fills(level: [f64; DIMS], rate: [f64; DIMS]) -> [f64; DIMS]
 }
 
 // The time since `at`, none if that is not past.
-pub fn since(now: u64, at: u64) -> u64
-    ensures { λ r. ⌜ r ≡ now - at ⌝ }
+pub fn since(clock: u64, at_ms: u64) -> u64
+    ensures { λ r. ⌜ r ≡ clock - «at_ms» ⌝ }
 {
-    if at < now { now - at } else { 0 }
+    if at_ms < clock { clock - at_ms } else { 0 }
 }
 
 // The later of two stamps.
@@ -86,14 +101,14 @@ pub fn later(a: u64, b: u64) -> u64
 
 // ---- the bucket
 
-// The smaller of a ceiling and 2^40.
+// The part of a ceiling that a burst holds.
 fn held(ceiling: u64) -> u64
-    ensures { λ r. ⌜ r ≡ min ceiling (2 ^ 40) ⌝ }
+    ensures { λ r. ⌜ r ≡ min ceiling flow.«RATE_MOST» ⌝ }
 {
-    if ceiling < 1099511627776 {
+    if ceiling < RATE_MOST {
         ceiling
     } else {
-        1099511627776
+        RATE_MOST
     }
 }
 
@@ -156,7 +171,7 @@ pub fn seconds(ms: u64) -> f64
 pub fn credit_of(fresh: bool, credit: f64, fill: f64, idle: u64) -> f64
     ensures { λ r. ⌜ r ≡ flow.credit-of fresh credit fill idle ⌝ }
 {
-    let depth = fill * 4.0;
+    let depth = fill * CREDIT_SECS;
     if fresh {
         depth
     } else {
@@ -187,10 +202,10 @@ impl Use {
     }
 
     // At a judgement: the credit, filled since the last.
-    pub fn credited(mut self, now: u64, fill: [f64; DIMS]) -> Use
-        ensures { λ r. ⌜ r ≡ flow.credited self now fill ⌝ }
+    pub fn credited(mut self, clock: u64, fill: [f64; DIMS]) -> Use
+        ensures { λ r. ⌜ r ≡ flow.credited self clock fill ⌝ }
     {
-        let idle = since(now, self.at_ms);
+        let idle = since(clock, self.at_ms);
         let fresh = is_fresh(self.fresh);
         let held = self.credit;
         let mut d = 0;
@@ -201,18 +216,18 @@ impl Use {
         self
     }
 
-    // The sums faded from when they were last read to `now`.
-    pub fn fade_to(mut self, now: u64) -> Use
-        ensures { λ r. ⌜ r ≡ flow.fade-to self now ⌝ }
+    // The sums faded from when they were last read to the clock.
+    pub fn fade_to(mut self, clock: u64) -> Use
+        ensures { λ r. ⌜ r ≡ flow.fade-to self clock ⌝ }
     {
-        let faded = fade::fade(since(now, self.at_ms));
+        let faded = fade::fade(since(clock, self.at_ms));
         let sums = self.attempted;
         let mut d = 0;
         while d < DIMS {
             self.attempted[d] = sums[d] * faded;
             d += 1;
         }
-        self.at_ms = later(self.at_ms, now);
+        self.at_ms = later(self.at_ms, clock);
         self
     }
 
@@ -230,16 +245,16 @@ impl Use {
         self
     }
 
-    // What the unit attempts a second, faded to `now`: its sums over the window of 2 seconds.
-    pub fn rates(self, now: u64) -> [f64; DIMS]
-        ensures { λ r. ⌜ r ≡ flow.rates self now ⌝ }
+    // What the unit attempts a second, faded to the clock: its sums over the window.
+    pub fn rates(self, clock: u64) -> [f64; DIMS]
+        ensures { λ r. ⌜ r ≡ flow.rates self clock ⌝ }
     {
-        let faded = fade::fade(since(now, self.at_ms));
+        let faded = fade::fade(since(clock, self.at_ms));
         let sums = self.attempted;
         let mut out = [0.0; DIMS];
         let mut d = 0;
         while d < DIMS {
-            out[d] = sums[d] * faded / 2.0;
+            out[d] = sums[d] * faded / WINDOW_SECS;
             d += 1;
         }
         out

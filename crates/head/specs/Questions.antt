@@ -1,20 +1,40 @@
 -- Document 01's questions 1 to 6, the number of the first answered no at each call, and what they show once all are answered yes. Definitions only.
 -- Definitions are shut (`unfoldable`): a proof opens the one that it is about.
-use Prim.Native.Nat.{ℕ, _+_, _≤_, _<_}
+use Prim.Native.Nat.{ℕ, _+_, _^_, _≤_, _<_}
 use mathlib.Core.Path.{_≡_}
 use mathlib.Core.Bool.{Bool, true, false, _&&_, cond, _||_}
 use mathlib.Core.List.{List}
 use lib.Dec.{eqb, leb, ltb}
 use lib.ListN.{getD}
-use Rattle.flow.specs.Flow.{all, dims}
+use Rattle.flow.specs.Flow.{all, dims, «UNBOUNDED», «RATE_MOST»}
+use Rattle.sender.specs.Sender.{«TABLES»}
 use Rattle.head.specs.declared.Shedder.{Shedder}
+
+-- the highest cost
+abbrev pub «COST_MOST» : ℕ
+«COST_MOST» = 2 ^ 40
+
+-- stamps are below this
+abbrev pub «STAMP_END» : ℕ
+«STAMP_END» = 2 ^ 53
+
+-- units tracked at most
+abbrev pub «UNITS_TRACKED» : ℕ
+«UNITS_TRACKED» = 2 ^ 17
+
+-- sources whose cuts are counted at most, and the records for them: one more is spare
+abbrev pub «SOURCES_COUNTED» : ℕ
+«SOURCES_COUNTED» = 4096
+
+abbrev pub «SOURCE_RECORDS» : ℕ
+«SOURCE_RECORDS» = «SOURCES_COUNTED» + 1
 
 -- ---- question 1: both rates u64::MAX (unbounded), or each 1 to 2^40
 unfoldable pub is-rate : ℕ → Bool
-is-rate r = cond (leb 1 r) (leb r 1099511627776) false
+is-rate r = cond (leb 1 r) (leb r «RATE_MOST») false
 
 unfoldable pub is-max : ℕ → Bool
-is-max r = eqb r 18446744073709551615
+is-max r = eqb r «UNBOUNDED»
 
 unfoldable pub all-rates : List ℕ → Bool
 all-rates xs = all (λ (d : ℕ). is-rate (getD xs d 0)) dims
@@ -28,7 +48,7 @@ rates-whole rate = is-unbounded rate || all-rates rate
 -- ---- question 2: 1 to 131,072 unit records, 2 to 4,097 counted records; in question 3 also: no more in use than there are, the last counted one spare
 unfoldable pub rooms-whole : ℕ → ℕ → ℕ → ℕ → Bool
 rooms-whole u c tracked counted =
-    cond (ltb u 1) false (cond (ltb 131072 u) false (cond (ltb c 2) false (cond (ltb 4097 c) false (cond (ltb u tracked) false (ltb counted c)))))
+    cond (ltb u 1) false (cond (ltb «UNITS_TRACKED» u) false (cond (ltb c 2) false (cond (ltb «SOURCE_RECORDS» c) false (cond (ltb u tracked) false (ltb counted c)))))
 
 -- a tag for each record: those of the unit records, then those of the counted records
 unfoldable pub tags-whole : ℕ → ℕ → ℕ → Bool
@@ -41,14 +61,14 @@ sizes-whole tags units uses counted = cond (tags-whole tags units counted) (cond
 -- ---- question 3: the head is whole
 -- at most 2^53 − 1
 unfoldable pub is-stamp : ℕ → Bool
-is-stamp t = ltb t 9007199254740992
+is-stamp t = ltb t «STAMP_END»
 
 unfoldable pub stamps-whole : ℕ → ℕ → ℕ → ℕ → Bool
 stamps-whole a b c d = (is-stamp a && is-stamp b) && (is-stamp c && is-stamp d)
 
--- remaining + next = 64, or both 0
+-- remaining + next = TABLES, or both 0
 unfoldable pub tables-whole : ℕ → ℕ → Bool
-tables-whole remaining next = cond (leb remaining 64) (cond (leb next 64) (cond (eqb (remaining + next) 64) true (eqb (remaining + next) 0)) false) false
+tables-whole remaining next = cond (leb remaining «TABLES») (cond (leb next «TABLES») (cond (eqb (remaining + next) «TABLES») true (eqb (remaining + next) 0)) false) false
 
 unfoldable pub head-whole : Shedder → Bool
 head-whole h =
@@ -61,7 +81,7 @@ memory-whole h tags units uses counted = cond (tags-whole tags units counted) (c
 
 -- ---- question 5: each cost is at most 2^40 (question 6 is `is-stamp` of the stamp)
 unfoldable pub costs-held : List ℕ → Bool
-costs-held xs = all (λ (d : ℕ). leb (getD xs d 0) 1099511627776) dims
+costs-held xs = all (λ (d : ℕ). leb (getD xs d 0) «COST_MOST») dims
 
 -- ---- the number of the first question answered no, else 0: at a start, a judgement, a cut, a reading; after the head, the lengths of the lent slices
 unfoldable pub start-asked : List ℕ → ℕ → ℕ → ℕ → ℕ → ℕ
@@ -84,10 +104,10 @@ pub record Ready (h : Shedder) (tags units uses counted stamp : ℕ) : Type 0 wh
   pub uses-room : uses ≡ h .«unit_room»
   pub tracked-held : h .tracked ≤ h .«unit_room»
   pub counted-held : h .counted < counted
-  pub stamp-held : stamp < 9007199254740992
-  pub clock-held : h .flow .«at_ms» < 9007199254740992
-  pub began-held : h .scan .«began_ms» < 9007199254740992
-  pub tables-held : h .scan .remaining + h .scan .next ≤ 64
+  pub stamp-held : stamp < «STAMP_END»
+  pub clock-held : h .flow .«at_ms» < «STAMP_END»
+  pub began-held : h .scan .«began_ms» < «STAMP_END»
+  pub tables-held : h .scan .remaining + h .scan .next ≤ «TABLES»
 
 pub record CutReady (h : Shedder) (tags units uses counted : ℕ) : Type 0 where
   pub tags-room : tags ≡ h .«unit_room» + counted

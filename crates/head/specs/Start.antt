@@ -10,6 +10,7 @@ use Rattle.flow.specs.Flow as flow
 use Rattle.flow.specs.Flow.{at, upto, zeros, numbers, dims}
 use Rattle.ieee.specs.Extremes.{least}
 use Rattle.flow.specs.declared.Bucket.{Bucket}
+use Rattle.store.specs.Store.{«CAUSES»}
 use Rattle.wants.specs.Wants as wants
 use Rattle.wants.specs.Wants.{Hist}
 use Rattle.head.specs.declared.Shedder.{Shedder}
@@ -21,8 +22,12 @@ use Rattle.head.specs.Questions.{start-asked}
 unfoldable pub buckets : List ℕ → List ℕ → List Bucket
 buckets rate ceiling = upto (λ (d : ℕ). flow.opened (getD rate d 0) (getD ceiling d 0)) dims (replicate dims (record { tokens = nothing; burst = nothing; «rate_per_ms» = nothing }))
 
+-- the highest level before the first scan, 10^15
+abbrev pub «LEVEL_MOST» : Float
+«LEVEL_MOST» = ofBits binary64 0x430c_6bf5_2634_0000
+
 unfoldable pub first-levels : List Float → List Float
-first-levels rate = upto (λ (d : ℕ). least (at rate d) (ofBits binary64 0x430c_6bf5_2634_0000)) dims zeros
+first-levels rate = upto (λ (d : ℕ). least (at rate d) «LEVEL_MOST») dims zeros
 
 unfoldable pub opening : List ℕ → List ℕ → ℕ → ℕ → Shedder
 opening rate ceiling units counted = record {
@@ -40,8 +45,8 @@ opening rate ceiling units counted = record {
   };
   visits = 0;
   level = first-levels (numbers rate);
-  batches = replicate 3 0;
-  receptions = replicate 3 0;
+  batches = replicate «CAUSES» 0;
+  receptions = replicate «CAUSES» 0;
   tracked = 0;
   counted = 0;
   «unit_room» = units;

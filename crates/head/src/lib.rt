@@ -3,6 +3,7 @@ ghost use mathlib.Core.Path.{_≡_};
 ghost use mathlib.Core.Bool.{_&&_, _||_};
 ghost use Prim.Native.Nat.{_<_};
 ghost use lib.ListN.{length};
+ghost use Rattle.store.specs.Store as store;
 ghost use Rattle.wants.specs.Wants as wants;
 ghost use Rattle.head.specs.Questions as asked;
 ghost use Rattle.head.specs.Answers as answers;
@@ -11,9 +12,33 @@ ghost use Rattle.head.specs.Start as starts;
 ghost use Rattle.head.specs.Bits.{Same-but-nan-bits};
 use flow::Bucket;
 use flow::DIMS;
+use flow::RATE_MOST;
+use flow::UNBOUNDED;
 use flow::Use;
+use sender::TABLES;
+pub use store::CAUSES;
+use store::SourceRow;
+use store::UnitRow;
+use store::UseRow;
+use wants::Counts;
+use wants::Sums;
 
-pub const CAUSES: usize = 3;
+// Units tracked at most. Every further one shares overflow's record.
+pub const UNITS_TRACKED: usize = 1 << 17;
+
+// Sources whose cuts are counted at most, and the records for them: one more is spare.
+pub const SOURCES_COUNTED: usize = 4096;
+
+pub const SOURCE_RECORDS: usize = SOURCES_COUNTED + 1;
+
+// The highest cost.
+pub const COST_MOST: u64 = 1 << 40;
+
+// Stamps are below this: a double holds each of them.
+pub const STAMP_END: u64 = 1 << 53;
+
+// The highest level before the first scan, 10^15.
+pub const LEVEL_MOST: f64 = 1000000000000000.0;
 
 // The token buckets, which every judgement takes from in the order stamps come.
 #[repr(C)]
@@ -147,13 +172,13 @@ fn either(a: bool, b: bool) -> bool
 fn is_rate(r: u64) -> bool
     ensures { λ r'. ⌜ r' ≡ asked.is-rate r ⌝ }
 {
-    if 1 <= r { r <= 1099511627776 } else { false }
+    if 1 <= r { r <= RATE_MOST } else { false }
 }
 
 fn is_max(r: u64) -> bool
     ensures { λ r'. ⌜ r' ≡ asked.is-max r ⌝ }
 {
-    r == 18446744073709551615
+    r == UNBOUNDED
 }
 
 fn all_rates(xs: [u64; DIMS]) -> bool
@@ -184,7 +209,7 @@ pub fn is_unbounded(xs: [u64; DIMS]) -> bool
 fn is_stamp(t: u64) -> bool
     ensures { λ r. ⌜ r ≡ asked.is-stamp t ⌝ }
 {
-    t < 9007199254740992
+    t < STAMP_END
 }
 
 // Question 5.
@@ -194,7 +219,7 @@ fn costs_held(xs: [u64; DIMS]) -> bool
     let mut ok = true;
     let mut d = 0;
     while d < DIMS {
-        ok = both(ok, xs[d] <= 1099511627776);
+        ok = both(ok, xs[d] <= COST_MOST);
         d += 1;
     }
     ok
@@ -203,9 +228,9 @@ fn costs_held(xs: [u64; DIMS]) -> bool
 fn tables_whole(remaining: usize, next: usize) -> bool
     ensures { λ r. ⌜ r ≡ asked.tables-whole remaining next ⌝ }
 {
-    if remaining <= 64 {
-        if next <= 64 {
-            if remaining + next == 64 {
+    if remaining <= TABLES {
+        if next <= TABLES {
+            if remaining + next == TABLES {
                 return true;
             }
             return remaining + next == 0;
@@ -220,13 +245,13 @@ fn rooms_whole(unit_room: usize, counted_room: usize, tracked: usize, counted: u
     if unit_room < 1 {
         return false;
     }
-    if 131072 < unit_room {
+    if UNITS_TRACKED < unit_room {
         return false;
     }
     if counted_room < 2 {
         return false;
     }
-    if 4097 < counted_room {
+    if SOURCE_RECORDS < counted_room {
         return false;
     }
     if unit_room < tracked {
@@ -383,7 +408,7 @@ fn first_levels(rate: [f64; DIMS]) -> [f64; DIMS]
     let mut out = [0.0; DIMS];
     let mut d = 0;
     while d < DIMS {
-        out[d] = ieee::min(rate[d], 1000000000000000.0);
+        out[d] = ieee::min(rate[d], LEVEL_MOST);
         d += 1;
     }
     out
@@ -436,16 +461,20 @@ fn opening(rate: [u64; DIMS], ceiling: [u64; DIMS], units: usize, counted: usize
 pub fn start(
     head: Shedder,
     tags: &[u16],
-    units: &[[u64; 7]],
-    uses: &[[f64; 2 * DIMS]],
-    counts: &mut [[u32; 768]; DIMS],
-    sums: &mut [[f64; 768]; DIMS],
-    counted: &[[u64; 8]],
+    units: &[UnitRow],
+    uses: &[UseRow],
+    counts: &mut Counts,
+    sums: &mut Sums,
+    counted: &[SourceRow],
     rate: [u64; DIMS],
     ceiling: [u64; DIMS],
 ) -> Starting
-    ensures { λ r. ⌜ Same-but-nan-bits (starts.beginning r (wants.hist (now (counts .exit)) (now (sums .exit)))) (starts.start head (length (now (tags .entry))) (length (now (units .entry))) (length (now (uses .entry))) (length (now (counted .entry))) (wants.hist (now (counts .entry)) (now (sums .entry))) rate ceiling) ⌝ }
-    ensures { λ r. ⌜ answers.start-number (r .answer) ≡ asked.start-asked rate (length (now (tags .entry))) (length (now (units .entry))) (length (now (uses .entry))) (length (now (counted .entry))) ⌝ }
+    ensures { λ r. ⌜ Same-but-nan-bits
+        (starts.beginning r (wants.hist (now (counts .exit)) (now (sums .exit))))
+        (starts.start head (length (now (tags .entry))) (length (now (units .entry))) (length (now (uses .entry))) (length (now (counted .entry)))
+        (wants.hist (now (counts .entry)) (now (sums .entry))) rate ceiling) ⌝ }
+    ensures { λ r. ⌜ answers.start-number (r .answer)
+        ≡ asked.start-asked rate (length (now (tags .entry))) (length (now (units .entry))) (length (now (uses .entry))) (length (now (counted .entry))) ⌝ }
 {
     let no = start_asked(rate, tags.len(), units.len(), uses.len(), counted.len());
     if no != 0 {
@@ -467,7 +496,7 @@ pub fn start(
 // A cause's place among the counts.
 pub fn index_of(cause: Cause) -> usize
     ensures { λ r. ⌜ r ≡ readings.index-of cause ⌝ }
-    ensures { λ r. ⌜ r < 3 ⌝ }
+    ensures { λ r. ⌜ r < store.«CAUSES» ⌝ }
 {
     match cause {
         Cause::ReceiverCeiling => 0,

@@ -28,7 +28,7 @@ fn dim_of(dim: Dim) -> usize
     }
 }
 
-// Tables that the scans have visited, all told.
+// Tables that all scans have visited.
 pub fn visited(head: Shedder) -> Reading
     ensures { λ r. ⌜ r ≡ readings.visited head ⌝ }
     ensures { λ r. ⌜ answers.reading-number r ≡ asked.read-asked head ⌝ }

@@ -28,7 +28,7 @@ use Rattle.judge.specs.declared.Judgement.{Judgement}
 use Rattle.head.specs.Questions.{is-unbounded, judge-asked}
 use Rattle.scan.specs.Scanning.{Scanning, scanning, scanned}
 use Rattle.store_entry.specs.Entering.{is-misplaced, Entered, entry, used-at, Back, put-back, headed}
-use Rattle.cut_counts.specs.Counting.{Tally, tally, told}
+use Rattle.cut_counts.specs.Counting.{Tally, tally, count-verdict}
 
 -- what was admitted so far, and this cost
 unfoldable pub raised : List Float → List Float → List Float
@@ -40,7 +40,7 @@ rank-at hash i room = cond (ltb i room) (sender.rank-of-hash hash) (sender.rank 
 
 -- the verdict on a use, the buckets refilled since the clock before, with the level as it stands before this call's scan
 unfoldable pub outcome : Flow → List Float → Use → Float → List Float → ℕ → Outcome
-outcome f level u rank cost now = verdicts.judged (f .buckets) u now (now - f .«at_ms») cost (flow.fills level (flow.numbers (f .rate))) level rank
+outcome f level u rank cost clock = verdicts.judged (f .buckets) u clock (clock - f .«at_ms») cost (flow.fills level (flow.numbers (f .rate))) level rank
 
 -- only an admission adds to it
 unfoldable pub admitted-then : Verdict → List Float → List Float → List Float
@@ -48,7 +48,7 @@ admitted-then v admitted cost = cond (is-admitted v) (raised admitted cost) admi
 
 -- the flow after a judgement: clock and buckets have moved, also where the batch is cut
 unfoldable pub flowed : Flow → Outcome → List Float → ℕ → Flow
-flowed f o cost now = record { rate = f .rate; ceiling = f .ceiling; buckets = o .buckets; «at_ms» = now; admitted = admitted-then (o .verdict) (f .admitted) cost }
+flowed f o cost clock = record { rate = f .rate; ceiling = f .ceiling; buckets = o .buckets; «at_ms» = clock; admitted = admitted-then (o .verdict) (f .admitted) cost }
 
 -- a verdict, the head and the rows
 pub record Through : Type 0 where
@@ -61,24 +61,24 @@ passed p m = record { verdict = p .verdict; head = p .head; rows = m }
 
 -- with the record's place e, the use u found there, the outcome o, and what putting it back leaves
 abbrev pub passing : Shedder → ℕ → List Float → Entered → Outcome → Back → Through
-passing h now cost e o b = record {
+passing h clock cost e o b = record {
   verdict = o .verdict;
-  head = headed h (flowed (h .flow) o cost now) (b .overflow) (e .place .tracked);
+  head = headed h (flowed (h .flow) o cost clock) (b .overflow) (e .place .tracked);
   rows = rows (e .rows .tags) (b .units) (b .uses);
 }
 
 -- the outcome at an entered place
 abbrev pub outcome-at : Shedder → unit.Unit → List Float → ℕ → Entered → Outcome
-outcome-at h u cost now e =
-    outcome (h .flow) (h .level) (used-at (e .rows .units) (e .rows .uses) (h .overflow) (e .place .at)) (rank-at (sender.hash-of u) (e .place .at) (h .«unit_room»)) cost now
+outcome-at h u cost clock e =
+    outcome (h .flow) (h .level) (used-at (e .rows .units) (e .rows .uses) (h .overflow) (e .place .at)) (rank-at (sender.hash-of u) (e .place .at) (h .«unit_room»)) cost clock
 
 abbrev pub judged-at : Shedder → unit.Unit → List Float → ℕ → Entered → Through
-judged-at h u cost now e =
-    passing h now cost e (outcome-at h u cost now e) (put-back (e .rows .units) (e .rows .uses) (h .overflow) (e .place .at) (outcome-at h u cost now e .used))
+judged-at h u cost clock e =
+    passing h clock cost e (outcome-at h u cost clock e) (put-back (e .rows .units) (e .rows .uses) (h .overflow) (e .place .at) (outcome-at h u cost clock e .used))
 
 -- a judgement on the record that is found, added or overflow's
 unfoldable pub judged : Shedder → Rows → unit.Unit → List Float → ℕ → Through
-judged h m u cost now = judged-at h u cost now (entry m (h .tracked) (h .«unit_room») u now)
+judged h m u cost clock = judged-at h u cost clock (entry m (h .tracked) (h .«unit_room») u clock)
 
 -- the lent memory: the unit records, the histogram, the counted records
 pub record Memory : Type 0 where
@@ -112,12 +112,12 @@ abbrev pub bounded-scanned : Answer → List (List ℕ) → Scanning → Judged
 bounded-scanned a counted s = judge-ends a (s .head) (memory (s .rows) (s .hist) counted)
 
 -- the scan, once the cut was counted
-abbrev pub bounded-told : Hist → ℕ → Through → Tally → Judged
-bounded-told g clock p t = bounded-scanned (answer-of (p .verdict)) (t .counted) (scanned (scanning (t .head) (rows (t .tags) (p .rows .units) (p .rows .uses)) g) clock)
+abbrev pub bounded-counted : Hist → ℕ → Through → Tally → Judged
+bounded-counted g clock p t = bounded-scanned (answer-of (p .verdict)) (t .counted) (scanned (scanning (t .head) (rows (t .tags) (p .rows .units) (p .rows .uses)) g) clock)
 
 -- the count, under the unit named, once the verdict is there
 abbrev pub bounded-passed : Memory → unit.Unit → List ℕ → ℕ → Through → Judged
-bounded-passed m u cost clock p = bounded-told (m .hist) clock p (told (tally (p .head) (p .rows .tags) (m .counted)) (sender.name-of u) (p .verdict) cost)
+bounded-passed m u cost clock p = bounded-counted (m .hist) clock p (count-verdict (tally (p .head) (p .rows .tags) (m .counted)) (sender.name-of u) (p .verdict) cost)
 
 -- a judgement of a bounded relay: the clock is the later of stamp and clock; verdict, count and scan follow
 unfoldable pub bounded : Shedder → Memory → unit.Unit → List ℕ → ℕ → Judged

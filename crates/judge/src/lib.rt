@@ -16,8 +16,13 @@ use head::Flow;
 use head::Shedder;
 use sender::Name;
 use sender::Unit;
+use store::SourceRow;
+use store::UnitRow;
+use store::UseRow;
 use verdict::Outcome;
 use verdict::Verdict;
+use wants::Counts;
+use wants::Sums;
 
 // What a judgement answers, and the head after it.
 pub struct Judgement {
@@ -56,9 +61,9 @@ fn outcome(
     used: Use,
     rank: f64,
     cost: [f64; DIMS],
-    now: u64,
+    clock: u64,
 ) -> Outcome
-    ensures { λ r. ⌜ r ≡ judging.outcome f level used rank cost now ⌝ }
+    ensures { λ r. ⌜ r ≡ judging.outcome f level used rank cost clock ⌝ }
 {
     let buckets = f.buckets;
     let rate = f.rate;
@@ -66,8 +71,8 @@ fn outcome(
     verdict::judged(
         buckets,
         used,
-        now,
-        flow::since(now, f.at_ms),
+        clock,
+        flow::since(clock, f.at_ms),
         cost,
         fill,
         level,
@@ -87,8 +92,8 @@ fn admitted_then(verdict: Verdict, admitted: [f64; DIMS], cost: [f64; DIMS]) -> 
 }
 
 // Clock and buckets move also where the batch is cut.
-fn flowed(f: Flow, o: Outcome, cost: [f64; DIMS], now: u64) -> Flow
-    ensures { λ r. ⌜ r ≡ judging.flowed f o cost now ⌝ }
+fn flowed(f: Flow, o: Outcome, cost: [f64; DIMS], clock: u64) -> Flow
+    ensures { λ r. ⌜ r ≡ judging.flowed f o cost clock ⌝ }
 {
     let rate = f.rate;
     let ceiling = f.ceiling;
@@ -100,7 +105,7 @@ fn flowed(f: Flow, o: Outcome, cost: [f64; DIMS], now: u64) -> Flow
         rate,
         ceiling,
         buckets,
-        at_ms: now,
+        at_ms: clock,
         admitted,
     }
 }
@@ -115,8 +120,8 @@ pub struct Passed {
 fn judged(
     head: Shedder,
     tags: &mut [u16],
-    units: &mut [[u64; 7]],
-    uses: &mut [[f64; 2 * DIMS]],
+    units: &mut [UnitRow],
+    uses: &mut [UseRow],
     unit: Unit,
     hash: u64,
     name: Name,
@@ -131,7 +136,8 @@ fn judged(
     requires { ⌜ name ≡ sender.name-of unit ⌝ }
     requires { ⌜ i ≡ store.find (now tags) (now units) name (head .tracked) ⌝ }
     requires { ⌜ hash ≡ sender.hash-of unit ⌝ }
-    ensures { λ r. ⌜ judging.passed r (store.rows (now (tags .exit)) (now (units .exit)) (now (uses .exit))) ≡ judging.judged head (store.rows (now (tags .entry)) (now (units .entry)) (now (uses .entry))) unit cost clock ⌝ }
+    ensures { λ r. ⌜ judging.passed r (store.rows (now (tags .exit)) (now (units .exit)) (now (uses .exit)))
+        ≡ judging.judged head (store.rows (now (tags .entry)) (now (units .entry)) (now (uses .entry))) unit cost clock ⌝ }
     ensures { λ r. ⌜ r .head .tracked ≤ head .«unit_room» ⌝ }
     ensures { λ r. ⌜ r .head .counted ≡ head .counted ⌝ }
     ensures { λ r. ⌜ r .head .«unit_room» ≡ head .«unit_room» ⌝ }
@@ -172,11 +178,11 @@ fn answer_of(verdict: Verdict) -> Answer
 fn bounded(
     head: Shedder,
     tags: &mut [u16],
-    units: &mut [[u64; 7]],
-    uses: &mut [[f64; 2 * DIMS]],
-    counts: &mut [[u32; 768]; DIMS],
-    sums: &mut [[f64; 768]; DIMS],
-    counted: &mut [[u64; 8]],
+    units: &mut [UnitRow],
+    uses: &mut [UseRow],
+    counts: &mut Counts,
+    sums: &mut Sums,
+    counted: &mut [SourceRow],
     unit: Unit,
     hash: u64,
     name: Name,
@@ -188,7 +194,10 @@ fn bounded(
     requires { ⌜ name ≡ sender.name-of unit ⌝ }
     requires { ⌜ i ≡ store.find (now tags) (now units) name (head .tracked) ⌝ }
     requires { ⌜ asked.Ready head (length (now tags)) (length (now units)) (length (now uses)) (length (now counted)) stamp ⌝ }
-    ensures { λ r. ⌜ judging.judgement r (judging.memory (store.rows (now (tags .exit)) (now (units .exit)) (now (uses .exit))) (wants.hist (now (counts .exit)) (now (sums .exit))) (now (counted .exit))) ≡ judging.bounded head (judging.memory (store.rows (now (tags .entry)) (now (units .entry)) (now (uses .entry))) (wants.hist (now (counts .entry)) (now (sums .entry))) (now (counted .entry))) unit cost stamp ⌝ }
+    ensures { λ r. ⌜ judging.judgement r
+        (judging.memory (store.rows (now (tags .exit)) (now (units .exit)) (now (uses .exit))) (wants.hist (now (counts .exit)) (now (sums .exit))) (now (counted .exit)))
+        ≡ judging.bounded head
+        (judging.memory (store.rows (now (tags .entry)) (now (units .entry)) (now (uses .entry))) (wants.hist (now (counts .entry)) (now (sums .entry))) (now (counted .entry))) unit cost stamp ⌝ }
     ensures { λ r. ⌜ answers.judge-number (r .answer) ≡ 0 ⌝ }
 {
     let f = head.flow;
@@ -207,7 +216,7 @@ fn bounded(
     );
     let h = p.head;
     let verdict = p.verdict;
-    let t = cut_counts::told(h, tags, counted, name, verdict, cost);
+    let t = cut_counts::count_verdict(h, tags, counted, name, verdict, cost);
     let s = scan::scanned(t, tags, units, uses, counts, sums, clock);
     let answer = answer_of(verdict);
     Judgement { answer, head: s }
@@ -217,17 +226,22 @@ fn bounded(
 pub fn judge(
     head: Shedder,
     tags: &mut [u16],
-    units: &mut [[u64; 7]],
-    uses: &mut [[f64; 2 * DIMS]],
-    counts: &mut [[u32; 768]; DIMS],
-    sums: &mut [[f64; 768]; DIMS],
-    counted: &mut [[u64; 8]],
+    units: &mut [UnitRow],
+    uses: &mut [UseRow],
+    counts: &mut Counts,
+    sums: &mut Sums,
+    counted: &mut [SourceRow],
     unit: Unit,
     cost: [u64; DIMS],
     stamp: u64,
 ) -> Judgement
-    ensures { λ r. ⌜ Same-but-nan-bits (judging.judgement r (judging.memory (store.rows (now (tags .exit)) (now (units .exit)) (now (uses .exit))) (wants.hist (now (counts .exit)) (now (sums .exit))) (now (counted .exit)))) (judging.judge head (judging.memory (store.rows (now (tags .entry)) (now (units .entry)) (now (uses .entry))) (wants.hist (now (counts .entry)) (now (sums .entry))) (now (counted .entry))) unit cost stamp) ⌝ }
-    ensures { λ r. ⌜ answers.judge-number (r .answer) ≡ asked.judge-asked head (length (now (tags .entry))) (length (now (units .entry))) (length (now (uses .entry))) (length (now (counted .entry))) cost stamp ⌝ }
+    ensures { λ r. ⌜ Same-but-nan-bits
+        (judging.judgement r
+        (judging.memory (store.rows (now (tags .exit)) (now (units .exit)) (now (uses .exit))) (wants.hist (now (counts .exit)) (now (sums .exit))) (now (counted .exit))))
+        (judging.judge head
+        (judging.memory (store.rows (now (tags .entry)) (now (units .entry)) (now (uses .entry))) (wants.hist (now (counts .entry)) (now (sums .entry))) (now (counted .entry))) unit cost stamp) ⌝ }
+    ensures { λ r. ⌜ answers.judge-number (r .answer)
+        ≡ asked.judge-asked head (length (now (tags .entry))) (length (now (units .entry))) (length (now (uses .entry))) (length (now (counted .entry))) cost stamp ⌝ }
 {
     let no = head::judge_asked(
         head,

@@ -1,6 +1,6 @@
 -- A label read back. Definitions only. The fields are read without asking for their form, and the unit so read is taken
 -- only if its label is the text: so exactly the labels are taken.
-use Prim.Native.Nat.{ℕ, zero, suc, _+_, _-_, _*_, _%_, _<_}
+use Prim.Native.Nat.{ℕ, zero, suc, _+_, _-_, _*_, _%_, _^_, _<_}
 use mathlib.Core.Path.{_≡_}
 use mathlib.Core.Bool.{Bool, cond}
 use mathlib.Core.List.{List}
@@ -71,10 +71,10 @@ parse s = cond (is-label s) (Taken (unit-in s)) Nothing
 
 -- the numbers of a unit are of their types
 pub record KeyFits (k : PublicKey) : Type 0 where
-  pub a-fits : k .a < 18446744073709551616
-  pub b-fits : k .b < 18446744073709551616
-  pub c-fits : k .c < 18446744073709551616
-  pub d-fits : k .d < 18446744073709551616
+  pub a-fits : k .a < 2 ^ 64
+  pub b-fits : k .b < 2 ^ 64
+  pub c-fits : k .c < 2 ^ 64
+  pub d-fits : k .d < 2 ^ 64
 
 abbrev pub InRange : unit.Unit → Type 0
 InRange (Corroborated k) = KeyFits k

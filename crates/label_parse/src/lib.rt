@@ -49,8 +49,8 @@ fn byte_at(s: &[u8], at: usize) -> u8
 // The number that at most `most` digits make.
 fn field_at(s: &[u8], start: usize, base: u64, most: usize) -> Field
     requires { ⌜ 0 < base ⌝ }
-    requires { ⌜ base ^ most ≤ 18446744073709551616 ⌝ }
-    requires { ⌜ start + most < 18446744073709551616 ⌝ }
+    requires { ⌜ base ^ most ≤ 2 ^ 64 ⌝ }
+    requires { ⌜ start + most < 2 ^ 64 ⌝ }
     ensures { λ r. ⌜ r ≡ parsing.field base most (now (s .entry)) (parsing.from start) ⌝ }
     ensures { λ r. ⌜ (r .at ≤ start + most) × (r .value < base ^ most) ⌝ }
 {

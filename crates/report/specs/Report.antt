@@ -1,6 +1,6 @@
 -- The report: its questions 3, 4 and 7, its answer, and the lent buffer after it. Definitions only.
 use Prim.Native.Nat.{ℕ}
-use mathlib.Core.Bool.{Bool, true, false, cond}
+use mathlib.Core.Bool.{cond}
 use mathlib.Core.List.{List, [], _++_}
 use lib.Dec.{eqb, leb}
 use lib.ListN.{length, drop}

@@ -4,11 +4,13 @@ ghost use lib.ListN.{length, take};
 ghost use Rattle.io.specs.Counts.{Counts};
 ghost use Rattle.head.specs.Answers as answers;
 ghost use Rattle.report.specs.Report as reports;
-use flow::DIMS;
 use head::Shedder;
 use head::Written;
 use report_lines::TEXT_MOST;
 use report_lines::write_text;
+use store::SourceRow;
+use store::UnitRow;
+use store::UseRow;
 
 fn bytes(w: Written) -> usize
     ensures { λ r. ⌜ r ≡ reports.bytes w ⌝ }
@@ -35,7 +37,7 @@ fn composed(
     tags: usize,
     units: usize,
     uses: usize,
-    counted: &[[u64; 8]],
+    counted: &[SourceRow],
     room: usize,
     own: &mut [u8; TEXT_MOST],
 ) -> Written
@@ -60,13 +62,15 @@ fn composed(
 pub fn write_report(
     head: Shedder,
     tags: &[u16],
-    units: &[[u64; 7]],
-    uses: &[[f64; 2 * DIMS]],
-    counted: &[[u64; 8]],
+    units: &[UnitRow],
+    uses: &[UseRow],
+    counted: &[SourceRow],
     out: &mut [u8],
 ) -> Written
-    ensures { λ r. ⌜ reports.ends r (now (out .exit)) ≡ reports.report head (length (now (tags .entry))) (length (now (units .entry))) (length (now (uses .entry))) (now (counted .entry)) (now (out .entry)) ⌝ }
-    ensures { λ r. ⌜ answers.written-number r ≡ reports.report-asked head (length (now (tags .entry))) (length (now (units .entry))) (length (now (uses .entry))) (now (counted .entry)) (length (now (out .entry))) ⌝ }
+    ensures { λ r. ⌜ reports.ends r (now (out .exit))
+        ≡ reports.report head (length (now (tags .entry))) (length (now (units .entry))) (length (now (uses .entry))) (now (counted .entry)) (now (out .entry)) ⌝ }
+    ensures { λ r. ⌜ answers.written-number r
+        ≡ reports.report-asked head (length (now (tags .entry))) (length (now (units .entry))) (length (now (uses .entry))) (now (counted .entry)) (length (now (out .entry))) ⌝ }
 {
     let mut own = [0u8; TEXT_MOST];
     let w = composed(
@@ -88,9 +92,9 @@ pub fn write_report(
 pub fn report<'a>(
     head: Shedder,
     tags: &[u16],
-    units: &[[u64; 7]],
-    uses: &[[f64; 2 * DIMS]],
-    counted: &[[u64; 8]],
+    units: &[UnitRow],
+    uses: &[UseRow],
+    counted: &[SourceRow],
     out: &'a mut [u8],
 ) -> &'a mut [u8]
     ensures { λ r. ⌜ now r ≡ reports.front head (length (now (tags .entry))) (length (now (units .entry))) (length (now (uses .entry))) (now (counted .entry)) (length (now (out .entry))) ⌝ }
@@ -104,9 +108,9 @@ pub fn report<'a>(
 pub fn report_refusal(
     head: Shedder,
     tags: &[u16],
-    units: &[[u64; 7]],
-    uses: &[[f64; 2 * DIMS]],
-    counted: &[[u64; 8]],
+    units: &[UnitRow],
+    uses: &[UseRow],
+    counted: &[SourceRow],
     out: &[u8],
 ) -> u64
     ensures { λ r. ⌜ r ≡ reports.report-asked head (length (now (tags .entry))) (length (now (units .entry))) (length (now (uses .entry))) (now (counted .entry)) (length (now (out .entry))) ⌝ }

@@ -19,7 +19,7 @@ use Rattle.flow.specs.Flow.{dims}
 use Rattle.head.specs.declared.Shedder.{Shedder}
 use Rattle.head.specs.Questions.{is-unbounded}
 use Rattle.cut_sources.specs.Counted.{counts-at}
-use Rattle.report_ranking.specs.Sources.{first-after, named, label-at, unit-at, most-named, reported}
+use Rattle.report_ranking.specs.Sources.{first-after, named, label-at, unit-at, «SOURCES_REPORTED», reported}
 use Rattle.report_lines.specs.Lines.{rate, ceiling, active, receiver-ceiling, over-share, relay-rate, numbers, line, rates-line, cause-line, source-line, source-lines, head-lines, head-most, text}
 
 joined-append : (xs ys : List (List ℕ)) → length (joined (xs ++ ys)) ≡ length (joined xs) + length (joined ys)
@@ -113,12 +113,12 @@ head-short h rates ceilings =
       line-short relay-rate (getD (h .batches) 2 0 ∷ getD (h .receptions) 2 0 ∷ []),
     )
 
-pub text-short : (h : Shedder) (rows : List (List ℕ)) → length (joined (head-lines h)) ≤ head-most → length (text h rows) ≤ head-most + most-named * 139
+pub text-short : (h : Shedder) (rows : List (List ℕ)) → length (joined (head-lines h)) ≤ head-most → length (text h rows) ≤ head-most + «SOURCES_REPORTED» * 139
 unfolding text
 text-short h rows short =
     omega (
       arith,
       joined-append (head-lines h) (source-lines rows (reported rows (h .counted))),
       sources-short rows (reported rows (h .counted)),
-      named-short rows (h .counted) most-named (h .counted),
+      named-short rows (h .counted) «SOURCES_REPORTED» (h .counted),
     )

@@ -12,27 +12,35 @@ use Rattle.cut_sources.specs.Counted.{counts-at}
 use Rattle.report_ranking.specs.Sources.{label-at, reported}
 
 -- ---- the words, in ASCII
+-- `rate`
 abbrev pub rate : List ℕ
 rate = 114 ∷ 97 ∷ 116 ∷ 101 ∷ []
 
+-- `ceiling`
 abbrev pub ceiling : List ℕ
 ceiling = 99 ∷ 101 ∷ 105 ∷ 108 ∷ 105 ∷ 110 ∷ 103 ∷ []
 
+-- `none`
 abbrev pub none : List ℕ
 none = 110 ∷ 111 ∷ 110 ∷ 101 ∷ []
 
+-- `active`
 abbrev pub active : List ℕ
 active = 97 ∷ 99 ∷ 116 ∷ 105 ∷ 118 ∷ 101 ∷ []
 
+-- `receiver-ceiling`
 abbrev pub receiver-ceiling : List ℕ
 receiver-ceiling = 114 ∷ 101 ∷ 99 ∷ 101 ∷ 105 ∷ 118 ∷ 101 ∷ 114 ∷ 45 ∷ ceiling
 
+-- `over-share`
 abbrev pub over-share : List ℕ
 over-share = 111 ∷ 118 ∷ 101 ∷ 114 ∷ 45 ∷ 115 ∷ 104 ∷ 97 ∷ 114 ∷ 101 ∷ []
 
+-- `relay-rate`
 abbrev pub relay-rate : List ℕ
 relay-rate = 114 ∷ 101 ∷ 108 ∷ 97 ∷ 121 ∷ 45 ∷ rate
 
+-- `source`
 abbrev pub source : List ℕ
 source = 115 ∷ 111 ∷ 117 ∷ 114 ∷ 99 ∷ 101 ∷ []
 

@@ -4,6 +4,7 @@ ghost use Prim.Native.Nat.{_<_, _≤_};
 ghost use lib.ListN.{length, take};
 ghost use Rattle.io.specs.Counts.{Counts};
 ghost use Rattle.text.specs.Page.{page, placed, writes, joined};
+ghost use Rattle.store.specs.Store as store;
 ghost use Rattle.report_ranking.specs.Sources as sources;
 ghost use Rattle.report_lines.specs.Lines as lines;
 use flow::DIMS;
@@ -13,6 +14,8 @@ use label::write_label;
 use report_ranking::SOURCES_REPORTED;
 use report_ranking::first_after;
 use report_ranking::unit_at;
+use store::CAUSES;
+use store::SourceRow;
 use text::put;
 
 // A number behind a space has at most 21 bytes.
@@ -21,8 +24,8 @@ const NUMBER_MOST: usize = 21;
 // numbers and a line feed each.
 pub const TEXT_MOST: usize = 2 * (8 + DIMS * NUMBER_MOST)
     + (7 + NUMBER_MOST)
-    + (17 + 11 + 11 + 6 * NUMBER_MOST)
-    + SOURCES_REPORTED * (7 + LABEL_MOST + 3 * NUMBER_MOST + 1);
+    + (17 + 11 + 11 + 2 * CAUSES * NUMBER_MOST)
+    + SOURCES_REPORTED * (7 + LABEL_MOST + CAUSES * NUMBER_MOST + 1);
 
 // The rest of a line: each number behind a space, and the line feed.
 fn put_numbers(out: &mut [u8], at: usize, xs: &[u64]) -> usize
@@ -58,7 +61,7 @@ fn put_rates(out: &mut [u8], at: usize, word: &[u8], unbounded: bool, xs: &[u64]
 }
 
 fn put_cause(out: &mut [u8], at: usize, word: &[u8], head: Shedder, i: usize) -> usize
-    requires { ⌜ i < 3 ⌝ }
+    requires { ⌜ i < store.«CAUSES» ⌝ }
     ensures { λ r. ⌜ page (now (out .exit)) r ≡ writes (page (now (out .entry)) at) (lines.cause-line (now (word .entry)) i head) ⌝ }
 {
     let batches = head.batches;
@@ -84,7 +87,7 @@ fn put_head(out: &mut [u8], at: usize, head: Shedder) -> usize
     put_cause(out, e, b"relay-rate", head, 2)
 }
 
-fn put_source(out: &mut [u8], at: usize, counted: &[[u64; 8]], i: usize) -> usize
+fn put_source(out: &mut [u8], at: usize, counted: &[SourceRow], i: usize) -> usize
     requires { ⌜ i < length (now counted) ⌝ }
     ensures { λ r. ⌜ page (now (out .exit)) r ≡ writes (page (now (out .entry)) at) (lines.source-line (now (counted .entry)) i) ⌝ }
 {
@@ -96,7 +99,7 @@ fn put_source(out: &mut [u8], at: usize, counted: &[[u64; 8]], i: usize) -> usiz
 }
 
 // The sources named, of the first n: each the first of those after the one before.
-fn put_sources(out: &mut [u8], at: usize, counted: &[[u64; 8]], n: usize) -> usize
+fn put_sources(out: &mut [u8], at: usize, counted: &[SourceRow], n: usize) -> usize
     requires { ⌜ n ≤ length (now counted) ⌝ }
     ensures { λ r. ⌜ page (now (out .exit)) r ≡ writes (page (now (out .entry)) at) (lines.source-lines (now (counted .entry)) (sources.reported (now (counted .entry)) n)) ⌝ }
 {
@@ -116,7 +119,7 @@ fn put_sources(out: &mut [u8], at: usize, counted: &[[u64; 8]], n: usize) -> usi
 }
 
 // The whole text at the front of own; every byte behind it is as it was. The answer is its length.
-pub fn write_text(head: Shedder, counted: &[[u64; 8]], own: &mut [u8; TEXT_MOST]) -> usize
+pub fn write_text(head: Shedder, counted: &[SourceRow], own: &mut [u8; TEXT_MOST]) -> usize
     requires { ⌜ head .counted ≤ length (now counted) ⌝ }
     ensures { λ r. ⌜ Counts r (now (own .exit)) ⌝ }
     ensures { λ r. ⌜ take r (now (own .exit)) ≡ lines.text head (now (counted .entry)) ⌝ }

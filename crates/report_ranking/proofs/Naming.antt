@@ -9,7 +9,7 @@ use native.Mathlib.Omega.{arith}
 use borrow.Author.Tests.{eq-eqb, ne-eqb}
 use lib.Dec.{eqb}
 use lib.ListN.{length, getD}
-use Rattle.report_ranking.specs.Sources.{precedes, is-after, earlier, better, first-after, named, most-named, reported}
+use Rattle.report_ranking.specs.Sources.{precedes, is-after, earlier, better, first-after, named, «SOURCES_REPORTED», reported}
 use Rattle.report_ranking.specs.Laws.{Front, Naming}
 use Rattle.report_ranking.proofs.Ordering.{order}
 
@@ -177,7 +177,7 @@ all-after rows n i = simp (eq-eqb n n refl)
 
 pub front : (rows : List (List ℕ)) (n : ℕ) → Front rows n 16 (reported rows n)
 front rows n =
-    let w = from rows n most-named n in
+    let w = from rows n «SOURCES_REPORTED» n in
     record { few = w .few; held = w .held; ordered = w .ordered; left-out = λ i h f. w .left-out i h (all-after rows n i) f }
 
 pub naming : Naming

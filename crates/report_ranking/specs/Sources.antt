@@ -47,9 +47,10 @@ unfoldable pub named : List (List ℕ) → ℕ → ℕ → ℕ → List ℕ
 named rows n zero p = []
 named rows n (suc k) p = cond (eqb (first-after rows n p n) n) [] (first-after rows n p n ∷ named rows n k (first-after rows n p n))
 
-abbrev pub most-named : ℕ
-most-named = 16
+-- the sources that a report names at most
+abbrev pub «SOURCES_REPORTED» : ℕ
+«SOURCES_REPORTED» = 16
 
--- the sources that a report names
+-- those that it names
 abbrev pub reported : List (List ℕ) → ℕ → List ℕ
-reported rows n = named rows n most-named n
+reported rows n = named rows n «SOURCES_REPORTED» n

@@ -11,12 +11,13 @@ use cut_sources::total_at;
 use label::label_less;
 use sender::PublicKey;
 use sender::Unit;
+use store::SourceRow;
 
 // The sources that a report names at most.
 pub const SOURCES_REPORTED: usize = 16;
 
 // The unit of a counted source.
-pub fn unit_at(counted: &[[u64; 8]], i: usize) -> Unit
+pub fn unit_at(counted: &[SourceRow], i: usize) -> Unit
     requires { ⌜ i < length (now counted) ⌝ }
     ensures { λ r. ⌜ r ≡ sources.unit-at (now (counted .entry)) i ⌝ }
 {
@@ -45,7 +46,7 @@ fn key_less(x: PublicKey, y: PublicKey) -> bool
 }
 
 // Whether the label of source i stands before that of source j. That of a key stands before all others.
-fn label_less_at(counted: &[[u64; 8]], i: usize, j: usize) -> bool
+fn label_less_at(counted: &[SourceRow], i: usize, j: usize) -> bool
     requires { ⌜ i < length (now counted) ⌝ }
     requires { ⌜ j < length (now counted) ⌝ }
     ensures { λ r. ⌜ r ≡ less (sources.label-at (now (counted .entry)) i) (sources.label-at (now (counted .entry)) j) ⌝ }
@@ -77,7 +78,7 @@ fn label_less_at(counted: &[[u64; 8]], i: usize, j: usize) -> bool
 }
 
 // Of two sources with the same total: the label by bytes, then the order of the store.
-fn label_precedes(counted: &[[u64; 8]], i: usize, j: usize) -> bool
+fn label_precedes(counted: &[SourceRow], i: usize, j: usize) -> bool
     requires { ⌜ i < length (now counted) ⌝ }
     requires { ⌜ j < length (now counted) ⌝ }
     ensures { λ r. ⌜ r ≡ sources.label-precedes (now (counted .entry)) i j ⌝ }
@@ -92,7 +93,7 @@ fn label_precedes(counted: &[[u64; 8]], i: usize, j: usize) -> bool
 }
 
 // Whether source i stands before source j: the larger total first.
-fn precedes(counted: &[[u64; 8]], i: usize, j: usize) -> bool
+fn precedes(counted: &[SourceRow], i: usize, j: usize) -> bool
     requires { ⌜ i < length (now counted) ⌝ }
     requires { ⌜ j < length (now counted) ⌝ }
     ensures { λ r. ⌜ r ≡ sources.precedes (now (counted .entry)) i j ⌝ }
@@ -109,7 +110,7 @@ fn precedes(counted: &[[u64; 8]], i: usize, j: usize) -> bool
 }
 
 // Whether source i stands after p; each stands after n, which is none.
-fn is_after(counted: &[[u64; 8]], n: usize, p: usize, i: usize) -> bool
+fn is_after(counted: &[SourceRow], n: usize, p: usize, i: usize) -> bool
     requires { ⌜ n ≤ length (now counted) ⌝ }
     requires { ⌜ p ≤ n ⌝ }
     requires { ⌜ i < n ⌝ }
@@ -121,7 +122,7 @@ fn is_after(counted: &[[u64; 8]], n: usize, p: usize, i: usize) -> bool
     precedes(counted, p, i)
 }
 
-fn earlier(counted: &[[u64; 8]], n: usize, best: usize, i: usize) -> usize
+fn earlier(counted: &[SourceRow], n: usize, best: usize, i: usize) -> usize
     requires { ⌜ n ≤ length (now counted) ⌝ }
     requires { ⌜ best ≤ n ⌝ }
     requires { ⌜ i < n ⌝ }
@@ -139,7 +140,7 @@ fn earlier(counted: &[[u64; 8]], n: usize, best: usize, i: usize) -> usize
 
 // The earlier of source i, where it stands after p, and the best so far. Few precede the best, and only those are
 // compared with p.
-fn better(counted: &[[u64; 8]], n: usize, p: usize, best: usize, i: usize) -> usize
+fn better(counted: &[SourceRow], n: usize, p: usize, best: usize, i: usize) -> usize
     requires { ⌜ n ≤ length (now counted) ⌝ }
     requires { ⌜ p ≤ n ⌝ }
     requires { ⌜ best ≤ n ⌝ }
@@ -158,7 +159,7 @@ fn better(counted: &[[u64; 8]], n: usize, p: usize, best: usize, i: usize) -> us
 }
 
 // Of n sources the first of those that stand after p, n where there is none.
-pub fn first_after(counted: &[[u64; 8]], n: usize, p: usize) -> usize
+pub fn first_after(counted: &[SourceRow], n: usize, p: usize) -> usize
     requires { ⌜ n ≤ length (now counted) ⌝ }
     requires { ⌜ p ≤ n ⌝ }
     ensures { λ r. ⌜ r ≡ sources.first-after (now (counted .entry)) n p n ⌝ }

@@ -1,5 +1,5 @@
 -- Document 01 on a scan: it ends with its 32nd judgement, and no judgement leaves a trim or a level outside. Laws on the definitions. Statements only; proofs/Laws.antt proves them.
--- They refuse a definition that visits other tables, or sets the level at another judgement, whatever the code does. crate `trim` has the laws of the trim and of the level stored.
+-- They refuse a definition that visits other tables, or sets the level at another judgement, whatever the code does. Crate `scan_trim` has the laws of the trim and of the level stored.
 use mathlib.Core.Bool.{cond}
 use mathlib.Core.Path.{_≡_}
 use Prim.Native.Nat.{ℕ, zero, suc, _+_, _*_, _%_, _^_, _≤_, _<_}

@@ -1,7 +1,8 @@
 -- A scan: when it begins, its visits, two tables a judgement, and its end. Definitions only.
-use Prim.Native.Nat.{ℕ, _+_, _-_, _^_, _%_}
+use Prim.Native.Nat.{ℕ, _+_, _-_, _/_, _^_, _%_}
 use mathlib.Core.Bool.{Bool, false, cond}
 use lib.Dec.{eqb, leb, ltb}
+use Rattle.sender.specs.Sender.{«TABLES»}
 use Rattle.store_retain.specs.Retain.{Kept, retained}
 use Rattle.store.specs.Store.{Rows}
 use Rattle.wants.specs.Wants as wants
@@ -9,6 +10,13 @@ use Rattle.wants.specs.Wants.{Hist}
 use Rattle.head.specs.declared.Shedder.{Shedder}
 use Rattle.scan.specs.Walking.{walk-overflow, walk}
 use Rattle.scan_trim.specs.Trimming.{scan-then, trimmed}
+
+-- how often the level is found again: a scan begins every quarter of this
+abbrev pub «ACTIVE_MS» : ℕ
+«ACTIVE_MS» = 2000
+
+abbrev pub «SCAN_MS» : ℕ
+«SCAN_MS» = «ACTIVE_MS» / 4
 
 -- what a scan works on
 pub record Scanning : Type 0 where
@@ -53,7 +61,7 @@ ended h g = cond (eqb (h .scan .remaining) 0) (trimmed h g) h
 -- a scan begins at the clock
 unfoldable pub opened : Shedder → ℕ → Shedder
 opened h clock = scan-then h (record {
-  remaining = 64;
+  remaining = «TABLES»;
   next = 0;
   «at_ms» = clock;
   «began_ms» = clock;
@@ -72,11 +80,11 @@ started h g = record { head = h; hist = g }
 
 -- none runs, and none is due
 unfoldable pub is-idle : Shedder → ℕ → Bool
-is-idle h clock = cond (leb 1 (h .scan .remaining)) false (ltb clock (h .scan .«began_ms» + 500))
+is-idle h clock = cond (leb 1 (h .scan .remaining)) false (ltb clock (h .scan .«began_ms» + «SCAN_MS»))
 
--- none runs, and 500 ms have passed since the last began
+-- none runs, and so long has passed since the last began
 unfoldable pub begun : Shedder → Hist → ℕ → Started
-begun h g clock = cond (leb 1 (h .scan .remaining)) (started h g) (cond (ltb clock (h .scan .«began_ms» + 500)) (started h g) (started (opened h clock) wants.cleared))
+begun h g clock = cond (leb 1 (h .scan .remaining)) (started h g) (cond (ltb clock (h .scan .«began_ms» + «SCAN_MS»)) (started h g) (started (opened h clock) wants.cleared))
 
 abbrev pub ended-at : Scanning → Scanning
 ended-at s = scanning (ended (s .head) (s .hist)) (s .rows) (s .hist)

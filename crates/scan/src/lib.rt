@@ -4,6 +4,8 @@ ghost use mathlib.Core.Path.{_≡_};
 ghost use mathlib.Core.Bool.{true};
 ghost use Prim.Native.Nat.{_<_, _≤_, _+_};
 ghost use lib.ListN.{length};
+ghost use Rattle.sender.specs.Sender as sender;
+ghost use Rattle.head.specs.Questions as asked;
 ghost use Rattle.store.specs.Store as store;
 ghost use Rattle.store_retain.specs.Retain as retain;
 ghost use Rattle.wants.specs.Wants as wants;
@@ -12,8 +14,18 @@ ghost use Rattle.scan.specs.Scanning as scanning;
 use flow::DIMS;
 use flow::Use;
 use head::Shedder;
+use sender::TABLES;
+use store::UnitRow;
+use store::UseRow;
+use wants::Counts;
+use wants::Sums;
 
-fn add_all(counts: &mut [[u32; 768]; DIMS], sums: &mut [[f64; 768]; DIMS], want: [f64; DIMS])
+// How often the level is found again: a scan begins every quarter of this.
+pub const ACTIVE_MS: u64 = 2000;
+
+const SCAN_MS: u64 = ACTIVE_MS / 4;
+
+fn add_all(counts: &mut Counts, sums: &mut Sums, want: [f64; DIMS])
     ensures { λ r. ⌜ (wants.hist (now (counts .exit)) (now (sums .exit))) ≡ walking.adds want dims (wants.hist (now (counts .entry)) (now (sums .entry))) ⌝ }
 {
     let mut d = 0;
@@ -23,20 +35,14 @@ fn add_all(counts: &mut [[u32; 768]; DIMS], sums: &mut [[f64; 768]; DIMS], want:
     }
 }
 
-fn walk_use(counts: &mut [[u32; 768]; DIMS], sums: &mut [[f64; 768]; DIMS], used: Use, at_ms: u64)
+fn walk_use(counts: &mut Counts, sums: &mut Sums, used: Use, at_ms: u64)
     ensures { λ r. ⌜ (wants.hist (now (counts .exit)) (now (sums .exit))) ≡ walking.walk-use used «at_ms» (wants.hist (now (counts .entry)) (now (sums .entry))) ⌝ }
 {
     add_all(counts, sums, used.rates(at_ms));
 }
 
 // Overflow's record is walked at table 0, once it has been judged.
-fn walk_overflow(
-    counts: &mut [[u32; 768]; DIMS],
-    sums: &mut [[f64; 768]; DIMS],
-    overflow: Use,
-    table: usize,
-    at_ms: u64,
-)
+fn walk_overflow(counts: &mut Counts, sums: &mut Sums, overflow: Use, table: usize, at_ms: u64)
     ensures { λ r. ⌜ (wants.hist (now (counts .exit)) (now (sums .exit))) ≡ walking.walk-overflow overflow table «at_ms» (wants.hist (now (counts .entry)) (now (sums .entry))) ⌝ }
 {
     if table == 0 {
@@ -50,10 +56,10 @@ fn walk_overflow(
 // The record at i, which stands in the table. Its rates are made here: a call of `walk_use` would be handed the whole use in memory.
 fn walk_one(
     tags: &[u16],
-    units: &[[u64; 7]],
-    uses: &[[f64; 2 * DIMS]],
-    counts: &mut [[u32; 768]; DIMS],
-    sums: &mut [[f64; 768]; DIMS],
+    units: &[UnitRow],
+    uses: &[UseRow],
+    counts: &mut Counts,
+    sums: &mut Sums,
     i: usize,
     table: usize,
     at_ms: u64,
@@ -61,7 +67,8 @@ fn walk_one(
     requires { ⌜ i < length (now units) ⌝ }
     requires { ⌜ i < length (now uses) ⌝ }
     requires { ⌜ store.in-table (now tags) table i ≡ true ⌝ }
-    ensures { λ r. ⌜ (wants.hist (now (counts .exit)) (now (sums .exit))) ≡ walking.walk-one (store.rows (now (tags .entry)) (now (units .entry)) (now (uses .entry))) table «at_ms» i (wants.hist (now (counts .entry)) (now (sums .entry))) ⌝ }
+    ensures { λ r. ⌜ (wants.hist (now (counts .exit)) (now (sums .exit)))
+        ≡ walking.walk-one (store.rows (now (tags .entry)) (now (units .entry)) (now (uses .entry))) table «at_ms» i (wants.hist (now (counts .entry)) (now (sums .entry))) ⌝ }
 {
     let used = store::use_at(units, uses, i);
     add_all(counts, sums, used.rates(at_ms));
@@ -71,10 +78,10 @@ fn walk_one(
 // tags once.
 fn walk_to_stale(
     tags: &[u16],
-    units: &[[u64; 7]],
-    uses: &[[f64; 2 * DIMS]],
-    counts: &mut [[u32; 768]; DIMS],
-    sums: &mut [[f64; 768]; DIMS],
+    units: &[UnitRow],
+    uses: &[UseRow],
+    counts: &mut Counts,
+    sums: &mut Sums,
     n: usize,
     table: usize,
     at_ms: u64,
@@ -84,7 +91,8 @@ fn walk_to_stale(
     requires { ⌜ n ≤ length (now uses) ⌝ }
     ensures { λ r. ⌜ r ≤ n ⌝ }
     ensures { λ r. ⌜ store.None (retain.is-stale (now (tags .entry)) (now (units .entry)) table «at_ms») 0 r ⌝ }
-    ensures { λ r. ⌜ (wants.hist (now (counts .exit)) (now (sums .exit))) ≡ walking.walk (store.rows (now (tags .entry)) (now (units .entry)) (now (uses .entry))) table «at_ms» r (wants.hist (now (counts .entry)) (now (sums .entry))) ⌝ }
+    ensures { λ r. ⌜ (wants.hist (now (counts .exit)) (now (sums .exit)))
+        ≡ walking.walk (store.rows (now (tags .entry)) (now (units .entry)) (now (uses .entry))) table «at_ms» r (wants.hist (now (counts .entry)) (now (sums .entry))) ⌝ }
 {
     let mut i = store_search::next_in(tags, 0, n, table);
     while i < n {
@@ -100,10 +108,10 @@ fn walk_to_stale(
 // The table's records from `from` on, where those before it were walked.
 fn walk(
     tags: &[u16],
-    units: &[[u64; 7]],
-    uses: &[[f64; 2 * DIMS]],
-    counts: &mut [[u32; 768]; DIMS],
-    sums: &mut [[f64; 768]; DIMS],
+    units: &[UnitRow],
+    uses: &[UseRow],
+    counts: &mut Counts,
+    sums: &mut Sums,
     from: usize,
     n: usize,
     table: usize,
@@ -113,7 +121,11 @@ fn walk(
     requires { ⌜ n ≤ length (now tags) ⌝ }
     requires { ⌜ n ≤ length (now units) ⌝ }
     requires { ⌜ n ≤ length (now uses) ⌝ }
-    ensures { λ r. ⌜ ((g : wants.Hist) → wants.hist (now (counts .entry)) (now (sums .entry)) ≡ walking.walk (store.rows (now (tags .entry)) (now (units .entry)) (now (uses .entry))) table «at_ms» from g → wants.hist (now (counts .exit)) (now (sums .exit)) ≡ walking.walk (store.rows (now (tags .entry)) (now (units .entry)) (now (uses .entry))) table «at_ms» n g) ⌝ }
+    ensures { λ r. ⌜ ((g : wants.Hist)
+        → wants.hist (now (counts .entry)) (now (sums .entry))
+        ≡ walking.walk (store.rows (now (tags .entry)) (now (units .entry)) (now (uses .entry))) table «at_ms» from g
+        → wants.hist (now (counts .exit)) (now (sums .exit))
+        ≡ walking.walk (store.rows (now (tags .entry)) (now (units .entry)) (now (uses .entry))) table «at_ms» n g) ⌝ }
 {
     let mut i = store_search::next_in(tags, from, n, table);
     while i < n {
@@ -125,7 +137,7 @@ fn walk(
 // One table more is visited, and so many records are left.
 fn visited(h: Shedder, n: usize) -> Shedder
     requires { ⌜ 1 ≤ h .scan .remaining ⌝ }
-    requires { ⌜ h .scan .remaining + h .scan .next ≤ 64 ⌝ }
+    requires { ⌜ h .scan .remaining + h .scan .next ≤ sender.«TABLES» ⌝ }
     ensures { λ r. ⌜ r ≡ scanning.visited h n ⌝ }
 {
     let mut s = h.scan;
@@ -142,10 +154,10 @@ fn visited(h: Shedder, n: usize) -> Shedder
 // are left. The head stays outside, since it would be copied.
 fn swept(
     tags: &mut [u16],
-    units: &mut [[u64; 7]],
-    uses: &mut [[f64; 2 * DIMS]],
-    counts: &mut [[u32; 768]; DIMS],
-    sums: &mut [[f64; 768]; DIMS],
+    units: &mut [UnitRow],
+    uses: &mut [UseRow],
+    counts: &mut Counts,
+    sums: &mut Sums,
     overflow: Use,
     tracked: usize,
     table: usize,
@@ -154,8 +166,11 @@ fn swept(
     requires { ⌜ tracked ≤ length (now tags) ⌝ }
     requires { ⌜ tracked ≤ length (now units) ⌝ }
     requires { ⌜ tracked ≤ length (now uses) ⌝ }
-    ensures { λ r. ⌜ retain.kept r (store.rows (now (tags .exit)) (now (units .exit)) (now (uses .exit))) ≡ retain.retained (store.rows (now (tags .entry)) (now (units .entry)) (now (uses .entry))) table «at_ms» tracked ⌝ }
-    ensures { λ r. ⌜ (wants.hist (now (counts .exit)) (now (sums .exit))) ≡ walking.walk (store.rows (now (tags .exit)) (now (units .exit)) (now (uses .exit))) table «at_ms» r (walking.walk-overflow overflow table «at_ms» (wants.hist (now (counts .entry)) (now (sums .entry)))) ⌝ }
+    ensures { λ r. ⌜ retain.kept r (store.rows (now (tags .exit)) (now (units .exit)) (now (uses .exit)))
+        ≡ retain.retained (store.rows (now (tags .entry)) (now (units .entry)) (now (uses .entry))) table «at_ms» tracked ⌝ }
+    ensures { λ r. ⌜ (wants.hist (now (counts .exit)) (now (sums .exit)))
+        ≡ walking.walk (store.rows (now (tags .exit)) (now (units .exit)) (now (uses .exit))) table «at_ms» r
+        (walking.walk-overflow overflow table «at_ms» (wants.hist (now (counts .entry)) (now (sums .entry)))) ⌝ }
     ensures { λ r. ⌜ r ≤ tracked ⌝ }
 {
     walk_overflow(counts, sums, overflow, table, at_ms);
@@ -168,19 +183,20 @@ fn swept(
 fn visit(
     h: Shedder,
     tags: &mut [u16],
-    units: &mut [[u64; 7]],
-    uses: &mut [[f64; 2 * DIMS]],
-    counts: &mut [[u32; 768]; DIMS],
-    sums: &mut [[f64; 768]; DIMS],
+    units: &mut [UnitRow],
+    uses: &mut [UseRow],
+    counts: &mut Counts,
+    sums: &mut Sums,
 ) -> Shedder
     requires { ⌜ h .tracked ≤ length (now tags) ⌝ }
     requires { ⌜ h .tracked ≤ length (now units) ⌝ }
     requires { ⌜ h .tracked ≤ length (now uses) ⌝ }
     requires { ⌜ 1 ≤ h .scan .remaining ⌝ }
-    requires { ⌜ h .scan .remaining + h .scan .next ≤ 64 ⌝ }
-    ensures { λ r. ⌜ scanning.scanning r (store.rows (now (tags .exit)) (now (units .exit)) (now (uses .exit))) (wants.hist (now (counts .exit)) (now (sums .exit))) ≡ scanning.visit (scanning.scanning h (store.rows (now (tags .entry)) (now (units .entry)) (now (uses .entry))) (wants.hist (now (counts .entry)) (now (sums .entry)))) ⌝ }
+    requires { ⌜ h .scan .remaining + h .scan .next ≤ sender.«TABLES» ⌝ }
+    ensures { λ r. ⌜ scanning.scanning r (store.rows (now (tags .exit)) (now (units .exit)) (now (uses .exit))) (wants.hist (now (counts .exit)) (now (sums .exit)))
+        ≡ scanning.visit (scanning.scanning h (store.rows (now (tags .entry)) (now (units .entry)) (now (uses .entry))) (wants.hist (now (counts .entry)) (now (sums .entry)))) ⌝ }
     ensures { λ r. ⌜ r .tracked ≤ h .tracked ⌝ }
-    ensures { λ r. ⌜ r .scan .remaining + r .scan .next ≤ 64 ⌝ }
+    ensures { λ r. ⌜ r .scan .remaining + r .scan .next ≤ sender.«TABLES» ⌝ }
 {
     let s = h.scan;
     let overflow = h.overflow;
@@ -202,16 +218,17 @@ fn visit(
 fn again(
     h: Shedder,
     tags: &mut [u16],
-    units: &mut [[u64; 7]],
-    uses: &mut [[f64; 2 * DIMS]],
-    counts: &mut [[u32; 768]; DIMS],
-    sums: &mut [[f64; 768]; DIMS],
+    units: &mut [UnitRow],
+    uses: &mut [UseRow],
+    counts: &mut Counts,
+    sums: &mut Sums,
 ) -> Shedder
     requires { ⌜ h .tracked ≤ length (now tags) ⌝ }
     requires { ⌜ h .tracked ≤ length (now units) ⌝ }
     requires { ⌜ h .tracked ≤ length (now uses) ⌝ }
-    requires { ⌜ h .scan .remaining + h .scan .next ≤ 64 ⌝ }
-    ensures { λ r. ⌜ scanning.scanning r (store.rows (now (tags .exit)) (now (units .exit)) (now (uses .exit))) (wants.hist (now (counts .exit)) (now (sums .exit))) ≡ scanning.again (scanning.scanning h (store.rows (now (tags .entry)) (now (units .entry)) (now (uses .entry))) (wants.hist (now (counts .entry)) (now (sums .entry)))) ⌝ }
+    requires { ⌜ h .scan .remaining + h .scan .next ≤ sender.«TABLES» ⌝ }
+    ensures { λ r. ⌜ scanning.scanning r (store.rows (now (tags .exit)) (now (units .exit)) (now (uses .exit))) (wants.hist (now (counts .exit)) (now (sums .exit)))
+        ≡ scanning.again (scanning.scanning h (store.rows (now (tags .entry)) (now (units .entry)) (now (uses .entry))) (wants.hist (now (counts .entry)) (now (sums .entry)))) ⌝ }
 {
     let s = h.scan;
     if s.remaining >= 1 {
@@ -233,7 +250,7 @@ fn again(
     }
 }
 
-fn ended(h: Shedder, counts: &[[u32; 768]; DIMS], sums: &[[f64; 768]; DIMS]) -> Shedder
+fn ended(h: Shedder, counts: &Counts, sums: &Sums) -> Shedder
     ensures { λ r. ⌜ r ≡ scanning.ended h (wants.hist (now (counts .entry)) (now (sums .entry))) ⌝ }
 {
     let s = h.scan;
@@ -248,7 +265,7 @@ fn opened(h: Shedder, clock: u64) -> Shedder
     ensures { λ r. ⌜ r ≡ scanning.opened h clock ⌝ }
 {
     let mut s = h.scan;
-    s.remaining = 64;
+    s.remaining = TABLES;
     s.next = 0;
     s.at_ms = clock;
     s.began_ms = clock;
@@ -257,23 +274,18 @@ fn opened(h: Shedder, clock: u64) -> Shedder
     r
 }
 
-fn begun(
-    h: Shedder,
-    counts: &mut [[u32; 768]; DIMS],
-    sums: &mut [[f64; 768]; DIMS],
-    clock: u64,
-) -> Shedder
-    requires { ⌜ h .scan .«began_ms» < 9007199254740992 ⌝ }
-    requires { ⌜ h .scan .remaining + h .scan .next ≤ 64 ⌝ }
+fn begun(h: Shedder, counts: &mut Counts, sums: &mut Sums, clock: u64) -> Shedder
+    requires { ⌜ h .scan .«began_ms» < asked.«STAMP_END» ⌝ }
+    requires { ⌜ h .scan .remaining + h .scan .next ≤ sender.«TABLES» ⌝ }
     ensures { λ r. ⌜ scanning.started r (wants.hist (now (counts .exit)) (now (sums .exit))) ≡ scanning.begun h (wants.hist (now (counts .entry)) (now (sums .entry))) clock ⌝ }
     ensures { λ r. ⌜ r .tracked ≡ h .tracked ⌝ }
-    ensures { λ r. ⌜ r .scan .remaining + r .scan .next ≤ 64 ⌝ }
+    ensures { λ r. ⌜ r .scan .remaining + r .scan .next ≤ sender.«TABLES» ⌝ }
 {
     let s = h.scan;
     if 1 <= s.remaining {
         return h;
     }
-    if clock < s.began_ms + 500 {
+    if clock < s.began_ms + SCAN_MS {
         return h;
     }
     wants::clear(counts, sums);
@@ -282,31 +294,33 @@ fn begun(
 
 // Whether no scan is under way and none is due. It is asked first, so that the head is copied no more often than without a scan.
 fn is_idle(h: Shedder, clock: u64) -> bool
-    requires { ⌜ h .scan .«began_ms» < 9007199254740992 ⌝ }
+    requires { ⌜ h .scan .«began_ms» < asked.«STAMP_END» ⌝ }
     ensures { λ r. ⌜ r ≡ scanning.is-idle h clock ⌝ }
 {
     let s = h.scan;
     if 1 <= s.remaining {
         return false;
     }
-    clock < s.began_ms + 500
+    clock < s.began_ms + SCAN_MS
 }
 
+// What a judgement does of a scan. The Rust's TABLES_PER_JUDGEMENT, 2, is no number here: `visit` and `again` are the two.
 pub fn scanned(
     h: Shedder,
     tags: &mut [u16],
-    units: &mut [[u64; 7]],
-    uses: &mut [[f64; 2 * DIMS]],
-    counts: &mut [[u32; 768]; DIMS],
-    sums: &mut [[f64; 768]; DIMS],
+    units: &mut [UnitRow],
+    uses: &mut [UseRow],
+    counts: &mut Counts,
+    sums: &mut Sums,
     clock: u64,
 ) -> Shedder
     requires { ⌜ h .tracked ≤ length (now tags) ⌝ }
     requires { ⌜ h .tracked ≤ length (now units) ⌝ }
     requires { ⌜ h .tracked ≤ length (now uses) ⌝ }
-    requires { ⌜ h .scan .«began_ms» < 9007199254740992 ⌝ }
-    requires { ⌜ h .scan .remaining + h .scan .next ≤ 64 ⌝ }
-    ensures { λ r. ⌜ scanning.scanning r (store.rows (now (tags .exit)) (now (units .exit)) (now (uses .exit))) (wants.hist (now (counts .exit)) (now (sums .exit))) ≡ scanning.scanned (scanning.scanning h (store.rows (now (tags .entry)) (now (units .entry)) (now (uses .entry))) (wants.hist (now (counts .entry)) (now (sums .entry)))) clock ⌝ }
+    requires { ⌜ h .scan .«began_ms» < asked.«STAMP_END» ⌝ }
+    requires { ⌜ h .scan .remaining + h .scan .next ≤ sender.«TABLES» ⌝ }
+    ensures { λ r. ⌜ scanning.scanning r (store.rows (now (tags .exit)) (now (units .exit)) (now (uses .exit))) (wants.hist (now (counts .exit)) (now (sums .exit)))
+        ≡ scanning.scanned (scanning.scanning h (store.rows (now (tags .entry)) (now (units .entry)) (now (uses .entry))) (wants.hist (now (counts .entry)) (now (sums .entry)))) clock ⌝ }
 {
     if is_idle(h, clock) {
         return h;

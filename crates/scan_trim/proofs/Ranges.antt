@@ -27,7 +27,7 @@ use Rattle.flow.specs.Flow.{at, zeros, numbers, dims}
 use Rattle.flow.proofs.Parts.{upto-at}
 use Rattle.wants.specs.Wants.{Hist}
 use Rattle.head.specs.declared.Shedder.{Shedder}
-use Rattle.scan_trim.specs.Trimming.{is-finite, twentieth, step-of, trim-of, trims, trims-at, levels, opens, span-of}
+use Rattle.scan_trim.specs.Trimming.{is-finite, «TRIM_STEP», step-of, trim-of, trims, trims-at, levels, opens, span-of}
 use Rattle.scan_trim.specs.Laws.{Trim, Trims, Rates, Levels}
 use Rattle.scan_trim.proofs.Doubles.{Number, finite, Finite, some, add-number, add-to, mul-number, div-number, clamp-number, clamp-trim, trim-positive, positive-finite, number-or-nan, most-least}
 
@@ -103,14 +103,14 @@ plus-one : (x : Float) → Number x → Number (Ieee.add binary64 one x)
 unfolding ofBits
 plus-one x n = add-to x false 1 (pos 0) n
 
-twentieth-finite : Number (Ieee.sub binary64 one twentieth) × Number (Ieee.add binary64 one twentieth)
+step-finite : Number (Ieee.sub binary64 one «TRIM_STEP») × Number (Ieee.add binary64 one «TRIM_STEP»)
 unfolding Ieee.sub ofBits
-twentieth-finite = (add-to (Ieee.neg twentieth) false 1 (pos 0) finite, add-to twentieth false 1 (pos 0) finite)
+step-finite = (add-to (Ieee.neg «TRIM_STEP») false 1 (pos 0) finite, add-to «TRIM_STEP» false 1 (pos 0) finite)
 
 step-number : (s : Bool) (m : ℕ) (e : ℤ) (gained span : Float) → lt nothing gained ≡ true → Finite (Ieee.div binary64 span one) → Number (step-of (fin s m e) gained span)
 unfolding step-of
 step-number s m e gained span h k =
-    clamp-number _ _ _ (plus-one _ (times _ _ k (less-one _ (div-number s m e gained h)))) (twentieth-finite .0) (twentieth-finite .1)
+    clamp-number _ _ _ (plus-one _ (times _ _ k (less-one _ (div-number s m e gained h)))) (step-finite .0) (step-finite .1)
 
 -- ---- the trim, by its cases. Its bounds, and the trim where the level found is not finite, are read off the definition: they have to be trims themselves
 module _ (found trim rate gain span : Float) where

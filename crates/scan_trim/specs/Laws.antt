@@ -16,7 +16,7 @@ use Rattle.wants.specs.Wants.{Hist}
 use Rattle.head.specs.declared.Shedder.{Shedder}
 use Rattle.scan_trim.specs.Trimming.{trim-of, levels, trimmed}
 
--- ---- the trim: 0.5 ≤ x ≤ 1. A not-a-number is none, since it compares with nothing
+-- ---- the trim: 0.5 ≤ x ≤ 1, written out, so that another TRIM_FLOOR is refused. A not-a-number is none, since it compares with nothing
 pub record Trim (x : Float) : Type 0 where
   pub least : half ⊴ x ≡ true
   pub most : x ⊴ one ≡ true

@@ -33,19 +33,28 @@ scan-then h s tracked visits level = record {
 unfoldable pub is-finite : Float → Bool
 is-finite x = cond (x ⊲ one ⊘ nothing) (Ieee.neg one ⊘ nothing ⊲ x) false
 
-abbrev pub twentieth : Float
-twentieth = ofBits binary64 0x3fa9_9999_9999_999a
+-- 0.05: the most that the trim moves the level in one scan
+abbrev pub «TRIM_STEP» : Float
+«TRIM_STEP» = ofBits binary64 0x3fa9_9999_9999_999a
 
--- 1 + span × (rate / gained − 1), in 0.95 to 1.05; the trim closes the gap in 1 second
+-- the least that it leaves of it
+abbrev pub «TRIM_FLOOR» : Float
+«TRIM_FLOOR» = half
+
+-- the seconds in which it closes the gap between the rate admitted and the relay's
+abbrev pub «TRIM_SECS» : Float
+«TRIM_SECS» = one
+
+-- 1 + span × (rate / gained − 1), in 0.95 to 1.05
 unfoldable pub step-of : Float → Float → Float → Float
 step-of rate gained span =
-    clamped (one ⊕ span ⊘ one ⊗ (rate ⊘ gained ⊖ one)) (one ⊖ twentieth) (one ⊕ twentieth)
+    clamped (one ⊕ span ⊘ «TRIM_SECS» ⊗ (rate ⊘ gained ⊖ one)) (one ⊖ «TRIM_STEP») (one ⊕ «TRIM_STEP»)
 
 -- 1 where the level found is not finite; else a step from the trim before, but the trim before where no time passed or nothing was gained
 unfoldable pub trim-of : Float → Float → Float → Float → Float → Float
 trim-of found trim rate gain span =
     cond (is-finite found)
-    (cond (nothing ⊲ span) (cond (nothing ⊲ gain ⊘ span) (clamped (trim ⊗ step-of rate (gain ⊘ span) span) half one) trim) trim)
+    (cond (nothing ⊲ span) (cond (nothing ⊲ gain ⊘ span) (clamped (trim ⊗ step-of rate (gain ⊘ span) span) «TRIM_FLOOR» one) trim) trim)
     one
 
 -- the level found, for each dimension
@@ -61,7 +70,7 @@ levels found trim = upto (λ (d : ℕ). most (at found d ⊗ at trim d) one) dim
 
 -- the seconds since the last reading
 unfoldable pub span-of : ℕ → ℕ → Float
-span-of now t = flow.seconds (now - t)
+span-of clock t = flow.seconds (clock - t)
 
 abbrev pub trims-at : Shedder → Hist → List Float
 trims-at h g =

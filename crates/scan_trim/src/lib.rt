@@ -4,6 +4,16 @@ ghost use Rattle.wants.specs.Wants as wants;
 ghost use Rattle.scan_trim.specs.Trimming as trimming;
 use flow::DIMS;
 use head::Shedder;
+use wants::Counts;
+use wants::Sums;
+
+// The most that the trim moves the level in one scan, and the least that it leaves of it.
+pub const TRIM_STEP: f64 = 0.05;
+
+pub const TRIM_FLOOR: f64 = 0.5;
+
+// The seconds in which the trim closes the gap between the rate admitted and the relay's.
+pub const TRIM_SECS: f64 = 1.0;
 
 fn is_finite(x: f64) -> bool
     ensures { λ r. ⌜ r ≡ trimming.is-finite x ⌝ }
@@ -15,9 +25,9 @@ fn step_of(rate: f64, gained: f64, span: f64) -> f64
     ensures { λ r. ⌜ r ≡ trimming.step-of rate gained span ⌝ }
 {
     ieee::clamp(
-        1.0 + span / 1.0 * (rate / gained - 1.0),
-        1.0 - 0.05,
-        1.0 + 0.05,
+        1.0 + span / TRIM_SECS * (rate / gained - 1.0),
+        1.0 - TRIM_STEP,
+        1.0 + TRIM_STEP,
     )
 }
 
@@ -28,7 +38,7 @@ fn trim_of(open: f64, trim: f64, rate: f64, gain: f64, span: f64) -> f64
         if 0.0 < span {
             let gained = gain / span;
             if 0.0 < gained {
-                return ieee::clamp(trim * step_of(rate, gained, span), 0.5, 1.0);
+                return ieee::clamp(trim * step_of(rate, gained, span), TRIM_FLOOR, 1.0);
             }
             return trim;
         }
@@ -37,7 +47,7 @@ fn trim_of(open: f64, trim: f64, rate: f64, gain: f64, span: f64) -> f64
     1.0
 }
 
-fn opens(counts: &[[u32; 768]; DIMS], sums: &[[f64; 768]; DIMS], rate: [f64; DIMS]) -> [f64; DIMS]
+fn opens(counts: &Counts, sums: &Sums, rate: [f64; DIMS]) -> [f64; DIMS]
     ensures { λ r. ⌜ r ≡ trimming.opens (wants.hist (now (counts .entry)) (now (sums .entry))) rate ⌝ }
 {
     let mut out = [0.0; DIMS];
@@ -80,14 +90,14 @@ fn levels(open: [f64; DIMS], trim: [f64; DIMS]) -> [f64; DIMS]
     out
 }
 
-fn span_of(now: u64, at: u64) -> f64
-    ensures { λ r. ⌜ r ≡ trimming.span-of now at ⌝ }
+fn span_of(clock: u64, read_ms: u64) -> f64
+    ensures { λ r. ⌜ r ≡ trimming.span-of clock «read_ms» ⌝ }
 {
-    flow::seconds(flow::since(now, at))
+    flow::seconds(flow::since(clock, read_ms))
 }
 
 // The scan is over: the level found, its trim, and the level stored.
-pub fn trimmed(h: Shedder, counts: &[[u32; 768]; DIMS], sums: &[[f64; 768]; DIMS]) -> Shedder
+pub fn trimmed(h: Shedder, counts: &Counts, sums: &Sums) -> Shedder
     ensures { λ r. ⌜ r ≡ trimming.trimmed h (wants.hist (now (counts .entry)) (now (sums .entry))) ⌝ }
 {
     let f = h.flow;

@@ -1,4 +1,4 @@
--- The rank's whole value, and that the Rust's table, taken from the rank in doubles, is the table.
+-- The rank's exact value, and that the Rust's table, taken from the rank in doubles, is the table.
 use mathlib.Core.Path.{_≡_, refl, sym, ap, _∙_, subst}
 use Prim.Native.Nat.{ℕ, _+_, _*_, _-_, _/_, _^_, _<_, _≤_, min}
 use native.Mathlib.Nat.{le-of-lt, le-trans, le-of-eq, min-eq-left, mul-le-mul-right, mul-assoc, mul-comm, one-mul, mul-div-mul-right}
@@ -38,7 +38,7 @@ sixty-four-is : Is (ofBits binary64 0x4050_0000_0000_0000) (power (1074 + 6))
 unfolding ofBits fits
 sixty-four-is = subst (Is (fin false 1 (pos 6))) (one-mul (power 1080)) (whole-is 1 6 tt)
 
--- the quotient is whole: n / 2^53, in units of 2^-1074
+-- the quotient is exact: n / 2^53, in units of 2^-1074
 part-is : (n : ℕ) → n < power 53 → Is (Ieee.div binary64 (whole n) (ofBits binary64 0x4340_0000_0000_0000)) (n * power 1021)
 part-is n h =
     div-exact (whole n) (ofBits binary64 0x4340_0000_0000_0000) (i .amount) (two-53-is .amount) (subst (λ (u : ℕ). 0 < u) (sym (two-53-is .worth)) (power-pos 1127))

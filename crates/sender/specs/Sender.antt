@@ -4,8 +4,7 @@ use mathlib.Core.Path.{_≡_}
 use mathlib.Core.Bool.{Bool, true, false, cond}
 use mathlib.Core.List.{List, [], _∷_, _++_}
 use lib.Dec.{eqb, ltb}
-use lib.IntN.{pos}
-use lib.Ieee.{Float, binary64, ofBits, ofInt, toUnsigned}
+use lib.Ieee.{Float, binary64, ofBits, toUnsigned}
 use Rattle.ieee.specs.Doubles.{_⊗_, _⊘_, whole}
 use Rattle.fnv.specs.Fnv.{fnv1a, big-endian}
 use Rattle.sender.specs.declared.PublicKey.{PublicKey}
@@ -44,13 +43,21 @@ hash-of u = fnv1a (bytes-of u)
 
 -- ---- rank and table
 
--- (hash >> 11) / 2^53, a double: 0x4340_0000_0000_0000 is 2^53
-unfoldable pub rank-of-hash : ℕ → Float
-rank-of-hash hash = whole (hash / 2 ^ 11) ⊘ ofBits binary64 0x4340_0000_0000_0000
+-- tables that the tracked units are split into
+abbrev pub «TABLES» : ℕ
+«TABLES» = 64
 
--- the whole part of 64 × rank
+-- 2^53: the steps of the rank, what a double tells apart below 1
+abbrev pub «RANK_STEPS» : Float
+«RANK_STEPS» = ofBits binary64 0x4340_0000_0000_0000
+
+-- (hash >> 11) / 2^53, a double
+unfoldable pub rank-of-hash : ℕ → Float
+rank-of-hash hash = whole (hash / 2 ^ 11) ⊘ «RANK_STEPS»
+
+-- the whole part of TABLES × rank
 unfoldable pub table-of-hash : ℕ → ℕ
-table-of-hash hash = 64 * (hash / 2 ^ 11) / 2 ^ 53
+table-of-hash hash = «TABLES» * (hash / 2 ^ 11) / 2 ^ 53
 
 -- ---- the tag: what a record keeps of the hash, in 16 bits: the table, and the ten lowest bits, in which most hashes of one
 -- table differ

@@ -1,6 +1,6 @@
 // The hash of a unit, and what follows from it: its rank and its table.
 ghost use mathlib.Core.Path.{_≡_};
-ghost use Prim.Native.Nat.{_<_};
+ghost use Prim.Native.Nat.{_<_, _^_};
 ghost use Rattle.ieee.specs.Doubles.{whole};
 ghost use Rattle.sender.specs.Sender as sender;
 use super::PublicKey;
@@ -8,6 +8,14 @@ use super::Unit;
 use fnv::OFFSET_BASIS;
 use fnv::fed;
 use fnv::feed_word;
+
+// A hash has 2^11 values for each step of the rank, and there are 2^53 steps: what a double tells apart below 1.
+const HASHES_PER_STEP: u64 = 1 << 11;
+
+const RANK_STEPS: f64 = 9007199254740992.0;
+
+// The hashes of one table: 2^64 / TABLES.
+const HASHES_PER_TABLE: u64 = 1 << 58;
 
 fn hash_of_key(key: PublicKey) -> u64
     ensures { λ r. ⌜ r ≡ sender.hash-of (Unit.Corroborated key) ⌝ }
@@ -31,7 +39,7 @@ pub fn hash_of(unit: Unit) -> u64
 }
 
 fn exact(n: u64) -> f64
-    requires { ⌜ n < 9007199254740992 ⌝ }
+    requires { ⌜ n < 2 ^ 53 ⌝ }
     ensures { λ r. ⌜ r ≡ whole n ⌝ }
 {
     n as f64
@@ -40,25 +48,25 @@ fn exact(n: u64) -> f64
 pub fn rank_of_hash(hash: u64) -> f64
     ensures { λ r. ⌜ r ≡ sender.rank-of-hash hash ⌝ }
 {
-    exact(hash / 2048) / 9007199254740992.0
+    exact(hash / HASHES_PER_STEP) / RANK_STEPS
 }
 
 // The six highest bits of the hash.
 pub fn table_of_hash(hash: u64) -> usize
-    ensures { λ r. ⌜ (r ≡ sender.table-of-hash hash) × (r < 64) ⌝ }
+    ensures { λ r. ⌜ (r ≡ sender.table-of-hash hash) × (r < sender.«TABLES») ⌝ }
 {
-    (hash / 288230376151711744) as usize
+    (hash / HASHES_PER_TABLE) as usize
 }
 
 // What a record keeps of the hash.
 pub fn tag_of_hash(hash: u64) -> u16
     ensures { λ r. ⌜ r ≡ sender.tag-of-hash hash ⌝ }
 {
-    (1024 * (hash / 288230376151711744) + hash % 1024) as u16
+    (1024 * (hash / HASHES_PER_TABLE) + hash % 1024) as u16
 }
 
 pub fn table_of_tag(tag: u16) -> usize
-    ensures { λ r. ⌜ (r ≡ sender.table-of-tag tag) × (r < 64) ⌝ }
+    ensures { λ r. ⌜ (r ≡ sender.table-of-tag tag) × (r < sender.«TABLES») ⌝ }
 {
     (tag / 1024) as usize
 }
@@ -70,7 +78,7 @@ pub fn rank(unit: Unit) -> f64
 }
 
 pub fn table_of(unit: Unit) -> usize
-    ensures { λ r. ⌜ (r ≡ sender.table-of unit) × (r < 64) ⌝ }
+    ensures { λ r. ⌜ (r ≡ sender.table-of unit) × (r < sender.«TABLES») ⌝ }
 {
     table_of_hash(hash_of(unit))
 }

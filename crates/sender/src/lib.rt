@@ -5,6 +5,9 @@ ghost use Rattle.sender.specs.Sender as sender;
 pub mod hash;
 pub mod memory;
 
+// Tables that the tracked units are split into.
+pub const TABLES: usize = 64;
+
 pub use hash::hash_of;
 pub use hash::rank;
 pub use hash::rank_of_hash;

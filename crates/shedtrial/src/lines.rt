@@ -3,13 +3,16 @@ use flow::DIMS;
 use libc::STDERR_FILENO;
 use libc::STDIN_FILENO;
 use libc::STDOUT_FILENO;
-use trial_script::FEED;
-use trial_script::LINE;
-use trial_script::front;
 use trial::COUNTED;
 use trial::TAGS;
 use trial::Trial;
 use trial::UNITS;
+use trial_script::FEED;
+use trial_script::LINE;
+use trial_script::front;
+use wants::BUCKETS;
+use wants::Counts;
+use wants::Sums;
 
 // The bytes read at once, and those kept before they are written.
 const BLOCK: usize = 65536;
@@ -62,8 +65,8 @@ fn ended(
     tags: &mut [u16; TAGS],
     units: &mut [[u64; 7]; UNITS],
     uses: &mut [[f64; 2 * DIMS]; UNITS],
-    counts: &mut [[u32; 768]; DIMS],
-    sums: &mut [[f64; 768]; DIMS],
+    counts: &mut Counts,
+    sums: &mut Sums,
     counted: &mut [[u64; 8]; COUNTED],
     line: &[u8; LINE],
     page: &mut [u8; BLOCK],
@@ -89,8 +92,8 @@ fn block(
     tags: &mut [u16; TAGS],
     units: &mut [[u64; 7]; UNITS],
     uses: &mut [[f64; 2 * DIMS]; UNITS],
-    counts: &mut [[u32; 768]; DIMS],
-    sums: &mut [[f64; 768]; DIMS],
+    counts: &mut Counts,
+    sums: &mut Sums,
     counted: &mut [[u64; 8]; COUNTED],
     line: &mut [u8; LINE],
     page: &mut [u8; BLOCK],
@@ -116,8 +119,8 @@ fn turn(
     tags: &mut [u16; TAGS],
     units: &mut [[u64; 7]; UNITS],
     uses: &mut [[f64; 2 * DIMS]; UNITS],
-    counts: &mut [[u32; 768]; DIMS],
-    sums: &mut [[f64; 768]; DIMS],
+    counts: &mut Counts,
+    sums: &mut Sums,
     counted: &mut [[u64; 8]; COUNTED],
     line: &mut [u8; LINE],
     page: &mut [u8; BLOCK],
@@ -154,8 +157,8 @@ fn finish(
     tags: &mut [u16; TAGS],
     units: &mut [[u64; 7]; UNITS],
     uses: &mut [[f64; 2 * DIMS]; UNITS],
-    counts: &mut [[u32; 768]; DIMS],
-    sums: &mut [[f64; 768]; DIMS],
+    counts: &mut Counts,
+    sums: &mut Sums,
     counted: &mut [[u64; 8]; COUNTED],
     line: &[u8; LINE],
     page: &mut [u8; BLOCK],
@@ -174,9 +177,9 @@ pub fn serve() {
     let mut units = [unit; UNITS];
     let used = [0.0; 2 * DIMS];
     let mut uses = [used; UNITS];
-    let none = [0u32; 768];
+    let none = [0u32; BUCKETS];
     let mut counts = [none; DIMS];
-    let nothing = [0.0; 768];
+    let nothing = [0.0; BUCKETS];
     let mut sums = [nothing; DIMS];
     let source = [0u64; 8];
     let mut counted = [source; COUNTED];

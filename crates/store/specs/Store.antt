@@ -1,18 +1,21 @@
 -- Rows of lent memory: where a record's parts lie, finding, adding, and the table of a record. Definitions only.
 use Prim.Native.Nat.{ℕ, zero, suc, _+_, _-_, _%_, _^_, _<_, _≤_}
 use mathlib.Core.Path.{_≡_}
-use mathlib.Core.Bool.{Bool, true, false, cond}
+use mathlib.Core.Bool.{Bool, false, cond}
 use mathlib.Core.List.{List, [], _∷_}
 use lib.Dec.{eqb, ltb}
 use lib.ListN.{getD, set, replicate}
 use lib.Ieee.{Float}
 use Rattle.ieee.specs.Doubles.{nothing}
-use Rattle.flow.specs.Flow as flow
 use Rattle.flow.specs.Flow.{at, upto, dims}
 use Rattle.flow.specs.declared.Use.{Use}
 use Rattle.sender.specs.declared.Name.{Name}
 use Rattle.sender.specs.declared.Words.{Words}
 use Rattle.sender.specs.Sender as sender
+
+-- causes of a cut
+abbrev pub «CAUSES» : ℕ
+«CAUSES» = 3
 
 -- the lent lists: a record is one place of each
 pub record Rows : Type 0 where

@@ -3,10 +3,11 @@ ghost use Rattle.flow.specs.Flow.{dims};
 ghost use mathlib.Core.Path.{_≡_};
 ghost use Prim.Native.Nat.{_<_, _≤_, _+_};
 ghost use Rattle.store.specs.Store as store;
+use super::UseRow;
 use flow::DIMS;
 
 // The part for each dimension that begins at `from`.
-pub fn part(row: [f64; 2 * DIMS], from: usize) -> [f64; DIMS]
+pub fn part(row: UseRow, from: usize) -> [f64; DIMS]
     requires { ⌜ from + dims ≤ dims + dims ⌝ }
     ensures { λ r. ⌜ r ≡ store.part row from ⌝ }
 {
@@ -27,7 +28,7 @@ fn pick(a: [f64; DIMS], b: [f64; DIMS], i: usize) -> f64
 }
 
 // Both parts one after the other.
-pub fn joined(a: [f64; DIMS], b: [f64; DIMS]) -> [f64; 2 * DIMS]
+pub fn joined(a: [f64; DIMS], b: [f64; DIMS]) -> UseRow
     ensures { λ r. ⌜ r ≡ store.joined a b ⌝ }
 {
     let mut out = [0.0; 2 * DIMS];

@@ -13,10 +13,22 @@ use flow::Use;
 use sender::Name;
 use sender::Words;
 
+// Causes of a cut. A source counts its cuts for each.
+pub const CAUSES: usize = 3;
+
+// A unit's words, its stamp and its fresh mark.
+pub type UnitRow = [u64; 7];
+
+// What the unit attempted, and its credit.
+pub type UseRow = [f64; 2 * DIMS];
+
+// A counted source: its words, and its cuts by cause.
+pub type SourceRow = [u64; 5 + CAUSES];
+
 // ---- a record: a tag, a row of the unit's words, stamp and fresh mark, and a row of floats
 
 // The unit that the record is of.
-pub fn words_at(units: &[[u64; 7]], i: usize) -> Words
+pub fn words_at(units: &[UnitRow], i: usize) -> Words
     requires { ⌜ i < length (now units) ⌝ }
     ensures { λ r. ⌜ r ≡ store.words-at (now (units .entry)) i ⌝ }
 {
@@ -31,7 +43,7 @@ pub fn words_at(units: &[[u64; 7]], i: usize) -> Words
 }
 
 // Its use.
-pub fn use_at(units: &[[u64; 7]], uses: &[[f64; 2 * DIMS]], i: usize) -> Use
+pub fn use_at(units: &[UnitRow], uses: &[UseRow], i: usize) -> Use
     requires { ⌜ i < length (now units) ⌝ }
     requires { ⌜ i < length (now uses) ⌝ }
     ensures { λ r. ⌜ r ≡ store.use-at (now (units .entry)) (now (uses .entry)) i ⌝ }
@@ -46,7 +58,7 @@ pub fn use_at(units: &[[u64; 7]], uses: &[[f64; 2 * DIMS]], i: usize) -> Use
     }
 }
 
-pub fn stamp_at(units: &[[u64; 7]], i: usize) -> u64
+pub fn stamp_at(units: &[UnitRow], i: usize) -> u64
     requires { ⌜ i < length (now units) ⌝ }
     ensures { λ r. ⌜ r ≡ store.stamp-at (now (units .entry)) i ⌝ }
 {
@@ -62,7 +74,7 @@ pub fn table_at(tags: &[u16], i: usize) -> usize
 }
 
 // The use put into the record; its unit stays.
-pub fn put_use(units: &mut [[u64; 7]], uses: &mut [[f64; 2 * DIMS]], i: usize, used: Use)
+pub fn put_use(units: &mut [UnitRow], uses: &mut [UseRow], i: usize, used: Use)
     requires { ⌜ i < length (now units) ⌝ }
     requires { ⌜ i < length (now uses) ⌝ }
     ensures { λ r. ⌜ now (units .exit) ≡ store.units-put (now (units .entry)) i used ⌝ }
@@ -80,8 +92,8 @@ pub fn put_use(units: &mut [[u64; 7]], uses: &mut [[f64; 2 * DIMS]], i: usize, u
 // A record of the unit written at i.
 pub fn add(
     tags: &mut [u16],
-    units: &mut [[u64; 7]],
-    uses: &mut [[f64; 2 * DIMS]],
+    units: &mut [UnitRow],
+    uses: &mut [UseRow],
     i: usize,
     name: Name,
     used: Use,

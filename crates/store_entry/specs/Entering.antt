@@ -33,12 +33,12 @@ entered p m = record { place = p; rows = m }
 abbrev pub place : ℕ → ℕ → Place
 place i n = record { at = i; tracked = n }
 
--- the unit's record; a new one, stamped now, where there is room; else overflow's, whose place is the room
+-- the unit's record; a new one, stamped clock, where there is room; else overflow's, whose place is the room
 unfoldable pub entry : Rows → ℕ → ℕ → unit.Unit → ℕ → Entered
-entry m tracked room u now =
+entry m tracked room u clock =
     cond (sender.is-overflow u) (entered (place room tracked) m)
     (cond (ltb (store.find (m .tags) (m .units) (sender.name-of u) tracked) tracked) (entered (place (store.find (m .tags) (m .units) (sender.name-of u) tracked) tracked) m)
-    (cond (ltb tracked room) (entered (place tracked (tracked + 1)) (store.added m tracked (sender.name-of u) (flow.added now))) (entered (place room tracked) m)))
+    (cond (ltb tracked room) (entered (place tracked (tracked + 1)) (store.added m tracked (sender.name-of u) (flow.added clock))) (entered (place room tracked) m)))
 
 -- the use at a place: a record's, or overflow's
 unfoldable pub used-at : List (List ℕ) → List (List Float) → Use → ℕ → Use

@@ -5,13 +5,14 @@ ghost use lib.ListN.{length};
 ghost use Rattle.sender.specs.Sender as sender;
 ghost use Rattle.store.specs.Store as store;
 ghost use Rattle.store_entry.specs.Entering as entering;
-use flow::DIMS;
 use flow::Use;
 use sender::Name;
 use sender::Unit;
+use store::UnitRow;
+use store::UseRow;
 
 // Question 9: the record found for the unit, where there is one, is the unit's. The search was made, and gave i.
-pub fn is_misplaced(tags: &[u16], units: &[[u64; 7]], n: usize, name: Name, i: usize) -> bool
+pub fn is_misplaced(tags: &[u16], units: &[UnitRow], n: usize, name: Name, i: usize) -> bool
     requires { ⌜ n ≤ length (now tags) ⌝ }
     requires { ⌜ n ≤ length (now units) ⌝ }
     requires { ⌜ i ≡ store.find (now tags) (now units) name n ⌝ }
@@ -35,8 +36,8 @@ pub struct Place {
 // The unit's record; a new one, stamped with the clock, where there is room; else overflow's. The search was made, and gave i.
 pub fn entry(
     tags: &mut [u16],
-    units: &mut [[u64; 7]],
-    uses: &mut [[f64; 2 * DIMS]],
+    units: &mut [UnitRow],
+    uses: &mut [UseRow],
     tracked: usize,
     room: usize,
     unit: Unit,
@@ -50,7 +51,8 @@ pub fn entry(
     requires { ⌜ tracked ≤ room ⌝ }
     requires { ⌜ name ≡ sender.name-of unit ⌝ }
     requires { ⌜ i ≡ store.find (now tags) (now units) name tracked ⌝ }
-    ensures { λ r. ⌜ entering.entered r (store.rows (now (tags .exit)) (now (units .exit)) (now (uses .exit))) ≡ entering.entry (store.rows (now (tags .entry)) (now (units .entry)) (now (uses .entry))) tracked room unit clock ⌝ }
+    ensures { λ r. ⌜ entering.entered r (store.rows (now (tags .exit)) (now (units .exit)) (now (uses .exit)))
+        ≡ entering.entry (store.rows (now (tags .entry)) (now (units .entry)) (now (uses .entry))) tracked room unit clock ⌝ }
     ensures { λ r. ⌜ r .tracked ≤ room ⌝ }
 {
     if sender::is_overflow(unit) {
@@ -70,7 +72,7 @@ pub fn entry(
 }
 
 // The use at a place: a record's, or overflow's.
-pub fn used_at(units: &[[u64; 7]], uses: &[[f64; 2 * DIMS]], overflow: Use, at: usize) -> Use
+pub fn used_at(units: &[UnitRow], uses: &[UseRow], overflow: Use, at: usize) -> Use
     requires { ⌜ length (now units) ≡ length (now uses) ⌝ }
     ensures { λ r. ⌜ r ≡ entering.used-at (now (units .entry)) (now (uses .entry)) overflow at ⌝ }
 {
@@ -83,8 +85,8 @@ pub fn used_at(units: &[[u64; 7]], uses: &[[f64; 2 * DIMS]], overflow: Use, at: 
 
 // The record is put back, and overflow's is then the answer.
 pub fn put_back(
-    units: &mut [[u64; 7]],
-    uses: &mut [[f64; 2 * DIMS]],
+    units: &mut [UnitRow],
+    uses: &mut [UseRow],
     overflow: Use,
     at: usize,
     used: Use,

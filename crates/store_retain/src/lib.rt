@@ -5,22 +5,27 @@ ghost use lib.ListN.{length};
 ghost use Rattle.store.specs.Store as store;
 ghost use Rattle.store_retain.specs.Retain as retain;
 use flow::DIMS;
+use store::UnitRow;
+use store::UseRow;
 
-// Of the table and older than 8,000 milliseconds. The table is asked first: it reads the tag alone.
-pub fn is_stale(tags: &[u16], units: &[[u64; 7]], i: usize, table: usize, at_ms: u64) -> bool
+// How long a unit that sends nothing stays tracked.
+pub const RETAIN_MS: u64 = 4 * flow::WINDOW_MS;
+
+// Of the table and older than that. The table is asked first: it reads the tag alone.
+pub fn is_stale(tags: &[u16], units: &[UnitRow], i: usize, table: usize, at_ms: u64) -> bool
     requires { ⌜ i < length (now tags) ⌝ }
     requires { ⌜ i < length (now units) ⌝ }
     ensures { λ r. ⌜ r ≡ retain.is-stale (now (tags .entry)) (now (units .entry)) table «at_ms» i ⌝ }
 {
     if store::table_at(tags, i) == table {
-        8000 < flow::since(at_ms, store::stamp_at(units, i))
+        RETAIN_MS < flow::since(at_ms, store::stamp_at(units, i))
     } else {
         false
     }
 }
 
 // The record at i is moved to j, and i freed.
-fn moved(tags: &mut [u16], units: &mut [[u64; 7]], uses: &mut [[f64; 2 * DIMS]], i: usize, j: usize)
+fn moved(tags: &mut [u16], units: &mut [UnitRow], uses: &mut [UseRow], i: usize, j: usize)
     requires { ⌜ i < length (now tags) ⌝ }
     requires { ⌜ i < length (now units) ⌝ }
     requires { ⌜ i < length (now uses) ⌝ }
@@ -39,7 +44,7 @@ fn moved(tags: &mut [u16], units: &mut [[u64; 7]], uses: &mut [[f64; 2 * DIMS]],
 }
 
 // A place becomes zero bits.
-fn freed(tags: &mut [u16], units: &mut [[u64; 7]], uses: &mut [[f64; 2 * DIMS]], place: usize)
+fn freed(tags: &mut [u16], units: &mut [UnitRow], uses: &mut [UseRow], place: usize)
     requires { ⌜ place < length (now tags) ⌝ }
     requires { ⌜ place < length (now units) ⌝ }
     requires { ⌜ place < length (now uses) ⌝ }
@@ -53,8 +58,8 @@ fn freed(tags: &mut [u16], units: &mut [[u64; 7]], uses: &mut [[f64; 2 * DIMS]],
 // The record at i: freed where it is stale, else moved to j, the end of those kept.
 fn retain_one(
     tags: &mut [u16],
-    units: &mut [[u64; 7]],
-    uses: &mut [[f64; 2 * DIMS]],
+    units: &mut [UnitRow],
+    uses: &mut [UseRow],
     i: usize,
     j: usize,
     table: usize,
@@ -64,7 +69,8 @@ fn retain_one(
     requires { ⌜ i < length (now units) ⌝ }
     requires { ⌜ i < length (now uses) ⌝ }
     requires { ⌜ j ≤ i ⌝ }
-    ensures { λ r. ⌜ retain.kept r (store.rows (now (tags .exit)) (now (units .exit)) (now (uses .exit))) ≡ retain.retain-one (retain.kept j (store.rows (now (tags .entry)) (now (units .entry)) (now (uses .entry)))) table «at_ms» i ⌝ }
+    ensures { λ r. ⌜ retain.kept r (store.rows (now (tags .exit)) (now (units .exit)) (now (uses .exit)))
+        ≡ retain.retain-one (retain.kept j (store.rows (now (tags .entry)) (now (units .entry)) (now (uses .entry)))) table «at_ms» i ⌝ }
     ensures { λ r. ⌜ j ≤ r ⌝ }
     ensures { λ r. ⌜ r ≤ i + 1 ⌝ }
 {
@@ -83,8 +89,8 @@ fn retain_one(
 // is written there; from there on a record that stays is copied once.
 pub fn retain(
     tags: &mut [u16],
-    units: &mut [[u64; 7]],
-    uses: &mut [[f64; 2 * DIMS]],
+    units: &mut [UnitRow],
+    uses: &mut [UseRow],
     from: usize,
     n: usize,
     table: usize,
@@ -95,7 +101,8 @@ pub fn retain(
     requires { ⌜ n ≤ length (now units) ⌝ }
     requires { ⌜ n ≤ length (now uses) ⌝ }
     requires { ⌜ store.None (retain.is-stale (now tags) (now units) table «at_ms») 0 from ⌝ }
-    ensures { λ r. ⌜ retain.kept r (store.rows (now (tags .exit)) (now (units .exit)) (now (uses .exit))) ≡ retain.retained (store.rows (now (tags .entry)) (now (units .entry)) (now (uses .entry))) table «at_ms» n ⌝ }
+    ensures { λ r. ⌜ retain.kept r (store.rows (now (tags .exit)) (now (units .exit)) (now (uses .exit)))
+        ≡ retain.retained (store.rows (now (tags .entry)) (now (units .entry)) (now (uses .entry))) table «at_ms» n ⌝ }
     ensures { λ r. ⌜ from ≤ r ⌝ }
     ensures { λ r. ⌜ r ≤ n ⌝ }
 {

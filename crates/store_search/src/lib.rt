@@ -5,9 +5,10 @@ ghost use Prim.Native.Nat.{_<_, _≤_, _+_};
 ghost use lib.ListN.{length};
 ghost use Rattle.store.specs.Store as store;
 use sender::Name;
+use store::UnitRow;
 
 // Whether the record is the unit's: its tag first, so that a search reads 2 bytes a record.
-pub fn is_at(tags: &[u16], units: &[[u64; 7]], i: usize, name: Name) -> bool
+pub fn is_at(tags: &[u16], units: &[UnitRow], i: usize, name: Name) -> bool
     requires { ⌜ i < length (now tags) ⌝ }
     requires { ⌜ i < length (now units) ⌝ }
     ensures { λ r. ⌜ r ≡ store.is-at (now (tags .entry)) (now (units .entry)) name i ⌝ }
@@ -79,7 +80,7 @@ pub fn next_tagged(tags: &[u16], from: usize, n: usize, tag: u16) -> usize
 }
 
 // The first of n records that is the unit's, else n. Another unit may have the same tag: then the search goes on behind it.
-pub fn find(tags: &[u16], units: &[[u64; 7]], n: usize, name: Name) -> usize
+pub fn find(tags: &[u16], units: &[UnitRow], n: usize, name: Name) -> usize
     requires { ⌜ n ≤ length (now tags) ⌝ }
     requires { ⌜ n ≤ length (now units) ⌝ }
     ensures { λ r. ⌜ r ≡ store.find (now (tags .entry)) (now (units .entry)) name n ⌝ }

@@ -1,5 +1,5 @@
 -- The fields of a line, which are its parts between single spaces, and the numbers in them. Definitions only.
-use Prim.Native.Nat.{ℕ, zero, suc, _+_, _-_, _*_}
+use Prim.Native.Nat.{ℕ, zero, suc, _+_, _-_, _*_, _^_}
 use mathlib.Core.Bool.{Bool, false, cond}
 use mathlib.Core.List.{List, [], _∷_}
 use lib.Dec.{eqb, ltb}
@@ -21,7 +21,7 @@ rest s = drop (suc (width s)) s
 
 -- a number and one byte more, read as a digit without asking whether it is one; it stays where it would reach 2^64
 unfoldable pub grown : ℕ → ℕ → ℕ
-grown n x = cond (ltb (n * 10 + (x - 48)) 18446744073709551616) (n * 10 + (x - 48)) n
+grown n x = cond (ltb (n * 10 + (x - 48)) (2 ^ 64)) (n * 10 + (x - 48)) n
 
 unfoldable pub read : ℕ → List ℕ → ℕ
 read n [] = n

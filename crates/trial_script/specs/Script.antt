@@ -1,5 +1,5 @@
 -- The trial's language: which lines there are, what call each is, and the text of a call. Definitions only.
-use Prim.Native.Nat.{ℕ, _+_, _<_}
+use Prim.Native.Nat.{ℕ, _+_, _^_, _<_}
 use mathlib.Core.Path.{_≡_}
 use mathlib.Core.Bool.{Bool, cond}
 use mathlib.Core.List.{List, [], _∷_, _++_}
@@ -95,8 +95,8 @@ text-of Nothing = []
 
 -- the numbers of a call are of their types
 pub record Amount (a : Amounts) : Type 0 where
-  pub receptions-fit : a .receptions < 18446744073709551616
-  pub bytes-fit : a .bytes < 18446744073709551616
+  pub receptions-fit : a .receptions < 2 ^ 64
+  pub bytes-fit : a .bytes < 2 ^ 64
 
 pub record StartFits (l : StartLine) : Type 0 where
   pub rate-fits : Amount (l .rate)
@@ -105,7 +105,7 @@ pub record StartFits (l : StartLine) : Type 0 where
 pub record JudgeFits (l : JudgeLine) : Type 0 where
   pub unit-fits : InRange (l .unit)
   pub cost-fits : Amount (l .cost)
-  pub stamp-fits : l .stamp < 18446744073709551616
+  pub stamp-fits : l .stamp < 2 ^ 64
 
 pub record CutFits (l : CutLine) : Type 0 where
   pub unit-fits : InRange (l .unit)

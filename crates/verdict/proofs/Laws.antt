@@ -22,7 +22,7 @@ use Rattle.verdict.specs.declared.Verdict.{Verdict}
 use Rattle.verdict.specs.declared.Verdict.the-variants.{Admitted, OverShare, RelayRate}
 use Rattle.verdict.specs.Verdict.{covers, suffice, leaves, mark-of, met, within, above, decided, settled, credit-holds, tokens-hold}
 use Rattle.verdict.specs.Laws as law
-use Rattle.verdict.specs.Laws.{Asked, Kept, Told, Pays}
+use Rattle.verdict.specs.Laws.{Asked, Kept, Names, Pays}
 
 -- ---- the verdicts differ
 abbrev number : Verdict → ℕ
@@ -122,7 +122,7 @@ module _ (bs : List Bucket) (u : Use) (now elapsed : ℕ) (cost fill level : Lis
     credit = λ h. ap (λ (u : Use). u .credit) (settled-kept decision full (met u now fill cost) cost (λ e. h (told ∙ e)) .1);
   }
 
-  pub tells : Told bs u now elapsed cost fill level rank
+  pub tells : Names bs u now elapsed cost fill level rank
   tells = record {
     over-share = λ l e h. shared-by (Ieee.le wants one) has-credit has-tokens has-reserve l
         (all-of (λ (d : ℕ). credit-holds (at (credited u now fill .credit) d) (at cost d)) dims h) (sym told ∙ e);

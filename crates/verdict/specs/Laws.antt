@@ -16,19 +16,19 @@ use Rattle.verdict.specs.declared.Outcome.{Outcome}
 use Rattle.verdict.specs.declared.Verdict.the-variants.{Admitted, OverShare, RelayRate}
 use Rattle.verdict.specs.Verdict.{want, weight-of, met, judged}
 
-module _ (bs : List Bucket) (u : Use) (now elapsed : ℕ) (cost fill level : List Float) (rank : Float) where
+module _ (bs : List Bucket) (u : Use) (clock elapsed : ℕ) (cost fill level : List Float) (rank : Float) where
   -- at the judgement: the bucket after the refill, the credit after crediting, the want
   abbrev pub bucket : ℕ → Bucket
   bucket d = bucket-at (refilled-all bs elapsed) d
 
   abbrev pub credit : ℕ → Float
-  credit d = at (credited u now fill .credit) d
+  credit d = at (credited u clock fill .credit) d
 
   abbrev pub wants : Float
-  wants = want (weight-of (is-fresh (u .fresh)) (now - u .«at_ms»)) (met u now fill cost .attempted) cost level
+  wants = want (weight-of (is-fresh (u .fresh)) (clock - u .«at_ms»)) (met u clock fill cost .attempted) cost level
 
   abbrev pub outcome : Outcome
-  outcome = judged bs u now elapsed cost fill level rank
+  outcome = judged bs u clock elapsed cost fill level rank
 
   -- an admitted batch was held by the credit and by the tokens, in each dimension
   pub record Asked : Type 0 where
@@ -38,10 +38,10 @@ module _ (bs : List Bucket) (u : Use) (now elapsed : ℕ) (cost fill level : Lis
   -- a refused batch takes nothing: the buckets stay as refilled, the credit as credited
   pub record Kept : Type 0 where
     pub buckets : (outcome .verdict ≡ Admitted → ⊥) → outcome .buckets ≡ refilled-all bs elapsed
-    pub credit : (outcome .verdict ≡ Admitted → ⊥) → outcome .used .credit ≡ credited u now fill .credit
+    pub credit : (outcome .verdict ≡ Admitted → ⊥) → outcome .used .credit ≡ credited u clock fill .credit
 
   -- within the level, OverShare says that a credit lacks, and RelayRate that each credit holds and a bucket's tokens lack
-  pub record Told : Type 0 where
+  pub record Names : Type 0 where
     pub over-share : T (wants ⊴ one) → outcome .verdict ≡ OverShare → ((d : ℕ) → d < dims → at cost d ⊴ credit d ≡ true) → ⊥
     pub relay-rate : outcome .verdict ≡ RelayRate → (d : ℕ) → d < dims → at cost d ⊴ credit d ≡ true
     pub no-tokens : outcome .verdict ≡ RelayRate → ((d : ℕ) → d < dims → at cost d ⊴ bucket d .tokens ≡ true) → ⊥

@@ -4,21 +4,21 @@ use mathlib.Core.Bool.{Bool, true, false, cond}
 use mathlib.Core.List.{List}
 use lib.Dec.{leb}
 use lib.Ieee.{Float, binary64, ofBits}
-use Rattle.ieee.specs.Doubles.{_⊕_, _⊖_, _⊗_, _⊘_, _⊴_, one, half, two}
+use Rattle.ieee.specs.Doubles.{_⊕_, _⊖_, _⊗_, _⊘_, _⊴_, one, half}
 use Rattle.flow.specs.declared.Bucket.{Bucket}
 use Rattle.flow.specs.declared.Use.{Use}
-use Rattle.flow.specs.Flow.{dims, largest, all, at, bucket-at, is-fresh, credited, fade-to, tried, charged, refilled-all, spent-all}
+use Rattle.flow.specs.Flow.{dims, «WINDOW_MS», «WINDOW_SECS», largest, all, at, bucket-at, is-fresh, credited, fade-to, tried, charged, refilled-all, spent-all}
 use Rattle.verdict.specs.declared.Outcome.{Outcome}
 use Rattle.verdict.specs.declared.Verdict.{Verdict}
 use Rattle.verdict.specs.declared.Verdict.the-variants.{Admitted, OverShare, RelayRate}
 
 abbrev pub weight-of : Bool → ℕ → Float
-weight-of fresh idle = cond fresh one (cond (leb 2000 idle) one half)
+weight-of fresh idle = cond fresh one (cond (leb «WINDOW_MS» idle) one half)
 
 -- how many times the level the unit wants; `attempted` has this batch in it already
 abbrev pub want-of : Float → Float → Float → Float → Float
 want-of weight attempted cost level =
-    (attempted ⊕ (weight ⊖ one) ⊗ cost) ⊘ two ⊘ level
+    (attempted ⊕ (weight ⊖ one) ⊗ cost) ⊘ «WINDOW_SECS» ⊘ level
 
 -- the three rules, each for one dimension
 abbrev pub credit-holds : Float → Float → Bool
@@ -31,15 +31,17 @@ tokens-hold b cost = cost ⊴ b .tokens
 abbrev pub reserve-holds : Bucket → Float → Float → Bool
 reserve-holds b cost mark = mark ⊴ (b .tokens ⊖ cost) ⊘ b .burst
 
-abbrev pub tenth : Float
-tenth = ofBits binary64 0x3fb9_9999_9999_999a
+-- 0.1: the part of the bucket that only sources within their share may spend
+abbrev pub «RESERVE» : Float
+«RESERVE» = ofBits binary64 0x3fb9_9999_9999_999a
 
-abbrev pub millionth : Float
-millionth = ofBits binary64 0x3eb0_c6f7_a0b5_ed8d
+-- 0.000001: how far a rank raises the mark
+abbrev pub «RANK_WEIGHT» : Float
+«RANK_WEIGHT» = ofBits binary64 0x3eb0_c6f7_a0b5_ed8d
 
--- the mark rises with the want, by a hair with the rank
+-- the mark rises with the want, and by a millionth with the rank
 abbrev pub mark-of : Float → Float → Float
-mark-of wants rank = tenth ⊗ (one ⊖ one ⊘ (wants ⊗ (one ⊕ rank ⊗ millionth)))
+mark-of wants rank = «RESERVE» ⊗ (one ⊖ one ⊘ (wants ⊗ (one ⊕ rank ⊗ «RANK_WEIGHT»)))
 
 abbrev pub want : Float → List Float → List Float → List Float → Float
 want weight attempted cost level = largest (λ (d : ℕ). want-of weight (at attempted d) (at cost d) (at level d)) dims
@@ -78,9 +80,9 @@ weighed wants rank bs u cost = settled (decided wants (covers (u .credit) cost) 
 
 -- the use after a judgement's credit, fade and try
 abbrev pub met : Use → ℕ → List Float → List Float → Use
-met u now fill cost = tried (fade-to (credited u now fill) now) cost
+met u clock fill cost = tried (fade-to (credited u clock fill) clock) cost
 
 -- fresh and idle are those before the fade
 abbrev pub judged : List Bucket → Use → ℕ → ℕ → List Float → List Float → List Float → Float → Outcome
-judged bs u now elapsed cost fill level rank =
-    weighed (want (weight-of (is-fresh (u .fresh)) (now - u .«at_ms»)) (met u now fill cost .attempted) cost level) rank (refilled-all bs elapsed) (met u now fill cost) cost
+judged bs u clock elapsed cost fill level rank =
+    weighed (want (weight-of (is-fresh (u .fresh)) (clock - u .«at_ms»)) (met u clock fill cost .attempted) cost level) rank (refilled-all bs elapsed) (met u clock fill cost) cost

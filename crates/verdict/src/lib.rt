@@ -5,10 +5,18 @@ ghost use Rattle.verdict.specs.Verdict as verdicts;
 use flow::Bucket;
 use flow::DIMS;
 use flow::Use;
+use flow::WINDOW_MS;
+use flow::WINDOW_SECS;
 use flow::is_fresh;
 use flow::refilled_all;
 use flow::since;
 use flow::spent_all;
+
+// The part of the bucket that only sources within their share may spend.
+pub const RESERVE: f64 = 0.1;
+
+// How far a rank raises the mark: it parts sources of equal want.
+pub const RANK_WEIGHT: f64 = 0.000001;
 
 pub enum Verdict {
     Admitted,
@@ -31,14 +39,14 @@ pub fn weight_of(fresh: bool, idle: u64) -> f64
     if fresh {
         return 1.0;
     }
-    if 2000 <= idle { 1.0 } else { 0.5 }
+    if WINDOW_MS <= idle { 1.0 } else { 0.5 }
 }
 
 // How many times the level the unit wants; this batch is in `attempted` already.
 pub fn want_of(weight: f64, attempted: f64, cost: f64, level: f64) -> f64
     ensures { λ r. ⌜ r ≡ verdicts.want-of weight attempted cost level ⌝ }
 {
-    (attempted + (weight - 1.0) * cost) / 2.0 / level
+    (attempted + (weight - 1.0) * cost) / WINDOW_SECS / level
 }
 
 // The three rules, each for one dimension.
@@ -61,11 +69,11 @@ pub fn reserve_holds(b: Bucket, cost: f64, mark: f64) -> bool
     mark <= (b.tokens - cost) / b.burst
 }
 
-// The mark rises with the want, by a hair with the rank: the furthest over is cut first.
+// The mark rises with the want, and by a millionth with the rank: the furthest over is cut first.
 pub fn mark_of(wants: f64, rank: f64) -> f64
     ensures { λ r. ⌜ r ≡ verdicts.mark-of wants rank ⌝ }
 {
-    0.1 * (1.0 - 1.0 / (wants * (1.0 + rank * 0.000001)))
+    RESERVE * (1.0 - 1.0 / (wants * (1.0 + rank * RANK_WEIGHT)))
 }
 
 fn pick(holds: bool, yes: Verdict, no: Verdict) -> Verdict
@@ -210,18 +218,18 @@ fn weighed(wants: f64, rank: f64, buckets: [Bucket; DIMS], used: Use, cost: [f64
 pub fn judged(
     buckets: [Bucket; DIMS],
     used: Use,
-    now: u64,
+    clock: u64,
     elapsed: u64,
     cost: [f64; DIMS],
     fill: [f64; DIMS],
     level: [f64; DIMS],
     rank: f64,
 ) -> Outcome
-    ensures { λ r. ⌜ r ≡ verdicts.judged buckets used now elapsed cost fill level rank ⌝ }
+    ensures { λ r. ⌜ r ≡ verdicts.judged buckets used clock elapsed cost fill level rank ⌝ }
 {
     let full = refilled_all(buckets, elapsed);
-    let weight = weight_of(is_fresh(used.fresh), since(now, used.at_ms));
-    let next = used.credited(now, fill).fade_to(now).tried(cost);
+    let weight = weight_of(is_fresh(used.fresh), since(clock, used.at_ms));
+    let next = used.credited(clock, fill).fade_to(clock).tried(cost);
     let attempted = next.attempted;
     let wants = want(weight, attempted, cost, level);
     weighed(wants, rank, full, next, cost)

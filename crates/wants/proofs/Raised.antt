@@ -3,7 +3,8 @@ use mathlib.Core.Path.{_≡_, refl, sym, ap, _∙_, subst}
 use mathlib.Core.Logic.{inl, inr}
 use mathlib.Core.Bool.{true, false}
 use Prim.Native.Nat.{ℕ, zero, suc, _+_, _-_, _*_, _^_, _≤_, _<_}
-use native.Mathlib.Nat.{le-trans, le-of-eq, le-of-suc-le-suc, lt-of-lt-of-le, eq-or-lt-of-le, mul-le-mul-right, mul-lt-mul-of-pos-right, mul-pos, le-of-mul-le-mul-right, lt-of-mul-lt-mul-right, eq-of-mul-eq-mul-right, pow-zero, pow-suc, pow-lt-pow-left, zero-mul, suc-mul, le-refl, not-le-of-lt, le-suc}
+use native.Mathlib.Nat.{le-trans, le-of-eq, le-of-suc-le-suc, lt-of-lt-of-le, eq-or-lt-of-le, mul-le-mul-right, mul-lt-mul-of-pos-right, le-of-mul-le-mul-right, lt-of-mul-lt-mul-right, eq-of-mul-eq-mul-right, pow-lt-pow-left, le-refl, not-le-of-lt, le-suc}
+use native.Mathlib.Nat.{mul-pos, pow-zero, pow-suc, zero-mul, suc-mul}
 use native.Mathlib.Omega.{arith}
 use borrow.Author.Tests.{le-leb, lt-leb}
 use lib.Pow.{pow-add, pow-pos, pow-mono}

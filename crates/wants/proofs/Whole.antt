@@ -19,7 +19,7 @@ below : (k : ℕ) → k < 2 ^ 53 → k < power 53
 below k h = subst (λ (p : ℕ). k < p) (power-is 53) h
 
 pub sum-of : (m n : ℕ) → m + n < 2 ^ 53 → add binary64 (whole m) (whole n) ≡ whole (m + n)
-sum-of m n h = same-units (add binary64 (whole m) (whole n)) (whole (m + n)) (sum .amount) (whole .amount) (sum .worth ∙ total ∙ sym (whole .worth))
+sum-of m n h = same-units (add binary64 (whole m) (whole n)) (whole (m + n)) (sum .amount) (joint .amount) (sum .worth ∙ total ∙ sym (joint .worth))
   where
     small : m + n < power 53
     small = below (m + n) h
@@ -30,8 +30,8 @@ sum-of m n h = same-units (add binary64 (whole m) (whole n)) (whole (m + n)) (su
     right : Is (whole n) (n * power 1074)
     right = int-is n (omega (arith, small))
 
-    whole : Is (whole (m + n)) ((m + n) * power 1074)
-    whole = int-is (m + n) (le-of-lt small)
+    joint : Is (whole (m + n)) ((m + n) * power 1074)
+    joint = int-is (m + n) (le-of-lt small)
 
     total : units (whole m) + units (whole n) ≡ (m + n) * power 1074
     total = ap₂ (λ (a b : ℕ). a + b) (left .worth) (right .worth) ∙ omega arith
@@ -45,6 +45,6 @@ sum-of m n h = same-units (add binary64 (whole m) (whole n)) (whole (m + n)) (su
 pub number-zero : whole 0 ≡ nothing
 number-zero = same-units (whole 0) nothing (int-is 0 (omega arith) .amount) (zero-is .amount) (int-is 0 (omega arith) .worth ∙ omega arith ∙ sym (zero-is .worth))
 
--- a turn of the sum: the whole whole so far, and one bucket's more
+-- a turn of the sum: the whole number so far, and one bucket's more
 pub sum-next : (cs : List ℕ) (i total n : ℕ) → whole total ≡ counted cs i → n ≡ getD cs i 0 → total + n < 2 ^ 53 → whole (total + n) ≡ counted cs (i + 1)
 sum-next cs i total n e f h = sym (sum-of total n h) ∙ ap₂ (add binary64) e (ap whole f) ∙ sym (counted-next cs i)

@@ -1,24 +1,35 @@
 -- The bucket of a want, in whole numbers: a double m × 2 ^ e is the fraction m × up e / down e. Definitions only.
-use Prim.Native.Nat.{ℕ, zero, suc, _+_, _*_, _^_, _≤_, _<_}
+use Prim.Native.Nat.{ℕ, zero, suc, _+_, _-_, _*_, _^_, _≤_, _<_}
 use mathlib.Core.Bool.{Bool, true, false, cond}
 use lib.Dec.{leb}
 use lib.Ieee.{Float, nan, inf, fin, up, down}
 use Rattle.ieee.specs.Doubles.{_⊲_, one}
 
+-- buckets to an octave of wants, and octaves, from a want of 1 on
+abbrev pub «BUCKETS_PER_OCTAVE» : ℕ
+«BUCKETS_PER_OCTAVE» = 16
+
+abbrev pub «OCTAVES» : ℕ
+«OCTAVES» = 48
+
+-- buckets of the histogram, for each dimension
+abbrev pub «BUCKETS» : ℕ
+«BUCKETS» = «BUCKETS_PER_OCTAVE» * «OCTAVES»
+
 -- 2 ^ b ≤ x ^ 16, both sides multiplied by the denominator
 unfoldable pub reaches : ℕ → Float → Bool
 reaches b nan = false
 reaches b (inf s) = true
-reaches b (fin s m e) = leb (2 ^ b * down e ^ 16) ((m * up e) ^ 16)
+reaches b (fin s m e) = leb (2 ^ b * down e ^ «BUCKETS_PER_OCTAVE») ((m * up e) ^ «BUCKETS_PER_OCTAVE»)
 
 -- the largest b up to n with 2 ^ b ≤ x ^ 16, and 0 where none above 0 has it
 unfoldable pub largest : ℕ → Float → ℕ
 largest zero x = 0
 largest (suc b) x = cond (reaches (suc b) x) (suc b) (largest b x)
 
--- a want up to 1, or not-a-number, goes to bucket 0; else the largest b with 2 ^ b ≤ want ^ 16, at most 767
+-- a want up to 1, or not-a-number, goes to bucket 0; else the largest b with 2 ^ b ≤ want ^ 16, the last bucket at most
 unfoldable pub bucket-of : Float → ℕ
-bucket-of want = cond (one ⊲ want) (largest 767 want) 0
+bucket-of want = cond (one ⊲ want) (largest («BUCKETS» - 1) want) 0
 
 -- the want, or 1 where it is not above 1 or not-a-number
 unfoldable pub at-least-one : Float → Float

@@ -3,16 +3,14 @@ use Prim.Native.Nat.{ℕ, zero, suc, _+_, _%_, _^_}
 use mathlib.Core.Bool.{cond}
 use mathlib.Core.List.{List, []}
 use lib.Dec.{eqb}
-use lib.IntN.{pos}
 use lib.ListN.{getD, set, replicate}
 use lib.Ieee as Ieee
-use lib.Ieee.{Float, binary64, ofBits, ofInt}
+use lib.Ieee.{Float}
 use Rattle.ieee.specs.Doubles.{_⊕_, _⊖_, _⊗_, _⊘_, _⊴_, nothing, whole, infinity}
-use Rattle.flow.specs.Flow as flow
 use Rattle.flow.specs.Flow.{dims}
-use Rattle.wants.specs.Bucket.{bucket-of}
+use Rattle.wants.specs.Bucket.{«BUCKETS», bucket-of}
 
--- ---- what is lent: for each dimension 768 counts and 768 sums
+-- ---- what is lent: for each dimension a count and a sum for each bucket
 pub record Hist : Type 0 where
   pub counts : List (List ℕ)
   pub sums : List (List Float)
@@ -29,7 +27,7 @@ sums-of h d = getD (h .sums) d []
 
 -- ---- as a scan begins: all zero
 unfoldable pub cleared : Hist
-cleared = record { counts = replicate dims (replicate 768 0); sums = replicate dims (replicate 768 nothing) }
+cleared = record { counts = replicate dims (replicate «BUCKETS» 0); sums = replicate dims (replicate «BUCKETS» nothing) }
 
 -- ---- a want is added to its bucket, in one dimension; the count wraps
 unfoldable pub one-more : List ℕ → ℕ → List ℕ
@@ -70,7 +68,7 @@ next count sum (fits left remaining) = cond (eqb count 0) (fits left remaining) 
 
 -- the first so many buckets
 unfoldable pub walked : List ℕ → List Float → Float → ℕ → Walk
-walked counts sums rate zero = fits rate (counted counts 768)
+walked counts sums rate zero = fits rate (counted counts «BUCKETS»)
 walked counts sums rate (suc b) = next (getD counts b 0) (getD sums b Ieee.nan) (walked counts sums rate b)
 
 -- where every bucket fits there is no level
@@ -79,4 +77,4 @@ found (fits left remaining) = infinity
 found (stopped level) = level
 
 unfoldable pub level : Hist → ℕ → Float → Float
-level h d rate = found (walked (counts-of h d) (sums-of h d) rate 768)
+level h d rate = found (walked (counts-of h d) (sums-of h d) rate «BUCKETS»)

@@ -7,10 +7,13 @@ ghost use Rattle.wants.specs.Bucket as bucket;
 // Buckets to an octave of wants, and octaves, from a want of 1 on.
 const BUCKETS_PER_OCTAVE: usize = 16;
 
-const OCTAVES: u64 = 48;
+const OCTAVES: usize = 48;
+
+// Buckets of the histogram, for each dimension.
+pub const BUCKETS: usize = BUCKETS_PER_OCTAVE * OCTAVES;
 
 // The last bucket, to which every larger want goes too.
-const LAST: usize = 767;
+const LAST: usize = BUCKETS - 1;
 
 // 2^52: the weight of a double's exponent in its bit pattern, and of the leading digit in its significand.
 const LEADING: u64 = 0x10000000000000;
@@ -73,12 +76,12 @@ fn at_least_one(want: f64) -> f64
 // The bucket of a want, by its exponent and its significand. It takes no logarithm, whose last bits Rust leaves open.
 pub fn bucket_of(want: f64) -> usize
     ensures { λ r. ⌜ r ≡ bucket.bucket-of want ⌝ }
-    ensures { λ r. ⌜ r < 768 ⌝ }
+    ensures { λ r. ⌜ r < bucket.«BUCKETS» ⌝ }
 {
     let bits = f64::to_bits(at_least_one(want));
-    let octave = bits / LEADING - 1023;
+    let octave = (bits / LEADING - 1023) as usize;
     if octave < OCTAVES {
-        return BUCKETS_PER_OCTAVE * (octave as usize) + sixteenth(LEADING + bits % LEADING);
+        return BUCKETS_PER_OCTAVE * octave + sixteenth(LEADING + bits % LEADING);
     }
     LAST
 }

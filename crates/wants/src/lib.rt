@@ -5,18 +5,22 @@ ghost use mathlib.Core.List.{[]};
 ghost use lib.ListN.{getD};
 ghost use Prim.Native.Nat.{_<_};
 ghost use Rattle.ieee.specs.Doubles.{whole, infinity};
+ghost use Rattle.wants.specs.Bucket as bucket;
 ghost use Rattle.wants.specs.Wants as wants;
 
 pub mod bucket;
 
+pub use bucket::BUCKETS;
 use bucket::bucket_of;
 use flow::DIMS;
 
-// Buckets of the histogram, for each dimension.
-pub const BUCKETS: usize = 768;
+// The histogram, for each dimension: how many units want so much, and the sum of their wants.
+pub type Counts = [[u32; BUCKETS]; DIMS];
+
+pub type Sums = [[f64; BUCKETS]; DIMS];
 
 // As a scan begins: no wants.
-pub fn clear(counts: &mut [[u32; BUCKETS]; DIMS], sums: &mut [[f64; BUCKETS]; DIMS])
+pub fn clear(counts: &mut Counts, sums: &mut Sums)
     ensures { λ r. ⌜ wants.hist (now (counts .exit)) (now (sums .exit)) ≡ wants.cleared ⌝ }
 {
     let none = [0u32; BUCKETS];
@@ -26,12 +30,7 @@ pub fn clear(counts: &mut [[u32; BUCKETS]; DIMS], sums: &mut [[f64; BUCKETS]; DI
 }
 
 // Counts one unit's want in a dimension; the count wraps, as in a release build.
-pub fn add(
-    counts: &mut [[u32; BUCKETS]; DIMS],
-    sums: &mut [[f64; BUCKETS]; DIMS],
-    dim: usize,
-    want: f64,
-)
+pub fn add(counts: &mut Counts, sums: &mut Sums, dim: usize, want: f64)
     requires { ⌜ dim < dims ⌝ }
     ensures { λ r. ⌜ wants.hist (now (counts .exit)) (now (sums .exit)) ≡ wants.added (wants.hist (now (counts .entry)) (now (sums .entry))) dim want ⌝ }
 {
@@ -63,9 +62,9 @@ fn wide(n: u32) -> u64
 
 // The number of units counted in a dimension. The definition sums doubles from the lowest bucket up. Each of those sums is
 // a whole number below 2^53, so none is rounded, and the whole numbers summed first come to the same double.
-fn counted(counts: &[[u32; BUCKETS]; DIMS], dim: usize) -> f64
+fn counted(counts: &Counts, dim: usize) -> f64
     requires { ⌜ dim < dims ⌝ }
-    ensures { λ r. ⌜ r ≡ wants.counted (getD (now (counts .entry)) dim []) 768 ⌝ }
+    ensures { λ r. ⌜ r ≡ wants.counted (getD (now (counts .entry)) dim []) bucket.«BUCKETS» ⌝ }
 {
     let mut total = 0;
     let mut i = 0;
@@ -78,12 +77,7 @@ fn counted(counts: &[[u32; BUCKETS]; DIMS], dim: usize) -> f64
 
 // The water level of a max-min fair division of the rate among the units counted: what a unit that wants more is held to.
 // Infinite where the demand is within the rate.
-pub fn level(
-    counts: &[[u32; BUCKETS]; DIMS],
-    sums: &[[f64; BUCKETS]; DIMS],
-    dim: usize,
-    rate: f64,
-) -> f64
+pub fn level(counts: &Counts, sums: &Sums, dim: usize, rate: f64) -> f64
     requires { ⌜ dim < dims ⌝ }
     ensures { λ r. ⌜ r ≡ wants.level (wants.hist (now (counts .entry)) (now (sums .entry))) dim rate ⌝ }
 {

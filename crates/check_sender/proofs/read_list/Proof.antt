@@ -1,4 +1,4 @@
--- `sendercheck::read_list` is safe and ends. The measure is the number of turns that are left; nothing else has to hold.
+-- `check_sender::read_list` is safe and ends. The measure is the number of turns that are left; nothing else has to hold.
 use native.Mathlib.Omega.{arith}
 use Rattle.check_sender.proofs.read_list.Statement.{statement}
 use Rattle.check_sender.proofs.read_list.Tie as tie

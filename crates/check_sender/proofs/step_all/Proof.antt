@@ -1,4 +1,4 @@
--- `sendercheck::step_all` is safe and ends. The invariant: the index is within the slice.
+-- `check_sender::step_all` is safe and ends. The invariant: the index is within the slice.
 use lib.ListN.{length}
 use Prim.Native.Nat.{_≤_, _-_}
 use borrow.Author.Needs.{needs}

@@ -1,4 +1,4 @@
--- `wantscheck::bits_of` is safe: what equals itself is no not-a-number. Assumes nothing.
+-- `check_wants::bits_of` is safe: what equals itself is no not-a-number. Assumes nothing.
 use borrow.Author.Needs.{needs}
 use mathlib.Core.Path.{_≡_, sym}
 use mathlib.Core.Bool.{true, not, true≢false}

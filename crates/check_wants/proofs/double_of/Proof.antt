@@ -1,4 +1,4 @@
--- `wantscheck::double_of` is safe: a pattern up to that of an infinity, the sign aside, is no not-a-number's. Assumes nothing.
+-- `check_wants::double_of` is safe: a pattern up to that of an infinity, the sign aside, is no not-a-number's. Assumes nothing.
 use borrow.Author.Needs.{needs}
 use borrow.Author.Tests.{le-ltb}
 use lib.Ieee.{binary64}

@@ -1,4 +1,4 @@
--- `wantscheck::main` is safe and ends. Assumes nothing.
+-- `check_wants::main` is safe and ends. Assumes nothing.
 use mathlib.Core.Path.{_≡_}
 use borrow.Author.Needs.{needs}
 use lib.ListN.{length}

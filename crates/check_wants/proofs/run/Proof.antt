@@ -1,4 +1,4 @@
--- `wantscheck::run` is safe and ends. Assumes nothing.
+-- `check_wants::run` is safe and ends. Assumes nothing.
 use Prim.Native.Nat.{_≤_, _-_}
 use borrow.Author.Needs.{needs}
 use lib.ListN.{length}

@@ -27,10 +27,20 @@ hands-back-requires : tie.Need-hands-back-requires
 hands-back-requires c κs = search needs
 
 find-requires : tie.Need-find-requires
-find-requires c κs = let w = cut-ready (c .before .before .before .before .before .before .before .before .before .before .args .head) _ _ _ _ (c .before .before .before .before .before .before .before .before .before .before .args .cost) (sym (c .before .before .before .before .before .before .before .before .cut-asked .ensures) ∙ c .before .before .before .before .before .before .before .if1 .left) in (le-within _ (w .tracked-held) (w .tags-room), le-to (w .tracked-held) (w .units-room))
+find-requires c κs =
+    let at-if1 = c .before .before .before .before .before .before .before in
+    let at-cut-asked = at-if1 .before in
+    let at-start = at-cut-asked .before .before in
+    let w = cut-ready (at-start .args .head) _ _ _ _ (at-start .args .cost) (sym (at-cut-asked .cut-asked .ensures) ∙ at-if1 .if1 .left) in
+    (le-within _ (w .tracked-held) (w .tags-room), le-to (w .tracked-held) (w .units-room))
 
 is-misplaced-requires : tie.Need-is-misplaced-requires
-is-misplaced-requires c κs = let w = cut-ready (c .before .before .before .before .before .before .before .before .before .before .before .before .before .args .head) _ _ _ _ (c .before .before .before .before .before .before .before .before .before .before .before .before .before .args .cost) (sym (c .before .before .before .before .before .before .before .before .before .before .before .cut-asked .ensures) ∙ c .before .before .before .before .before .before .before .before .before .before .if1 .left) in (le-within _ (w .tracked-held) (w .tags-room), (le-to (w .tracked-held) (w .units-room), c .before .before .find .ensures))
+is-misplaced-requires c κs =
+    let at-if1 = c .before .before .before .before .before .before .before .before .before .before in
+    let at-cut-asked = at-if1 .before in
+    let at-start = at-cut-asked .before .before in
+    let w = cut-ready (at-start .args .head) _ _ _ _ (at-start .args .cost) (sym (at-cut-asked .cut-asked .ensures) ∙ at-if1 .if1 .left) in
+    (le-within _ (w .tracked-held) (w .tags-room), (le-to (w .tracked-held) (w .units-room), c .before .before .find .ensures))
 
 same-length : tie.Need-same-length
 same-length c = search needs
@@ -40,16 +50,50 @@ same-length-2 c = search needs
 
 returns-2 : tie.Need-returns-2
 unfolding cut cut-number
-returns-2 c = (simp (sym (c .before .before .before .before .before .before .before .before .before .before .before .before .before .cut-asked .ensures), eq-eqb _ _ (c .before .before .before .before .before .before .before .before .before .before .before .before .if1 .left), sym (c .before .before .before .before .before .before .before .before .hands-back .ensures), c .before .before .before .before .before .before .before .if2 .taken, sym (c .before .before .before .before .before .before .before .before .before .name-of .ensures), sym (c .before .is-misplaced .ensures), c .if3 .taken), absurd (true≢false (sym (c .if3 .taken) ∙ c .before .is-misplaced .ensures ∙ never-nine _ _ _ _)))
+returns-2 c =
+    let at-if2 = c .before .before .before .before .before .before .before in
+    let at-hands-back = at-if2 .before in
+    let at-name-of = at-hands-back .before in
+    let at-if1 = at-name-of .before .before .before in
+    let at-cut-asked = at-if1 .before in (
+      simp (
+        sym (at-cut-asked .cut-asked .ensures),
+        eq-eqb _ _ (at-if1 .if1 .left),
+        sym (at-hands-back .hands-back .ensures),
+        at-if2 .if2 .taken,
+        sym (at-name-of .name-of .ensures),
+        sym (c .before .is-misplaced .ensures),
+        c .if3 .taken,
+      ),
+      absurd (true≢false (sym (c .if3 .taken) ∙ c .before .is-misplaced .ensures ∙ never-nine _ _ _ _)),
+    )
 
 numbers-requires : tie.Need-numbers-requires
 numbers-requires c κs = search needs
 
 handed-back-requires : tie.Need-handed-back-requires
-handed-back-requires c κs = let w = cut-ready (c .before .before .before .before .before .before .before .before .before .before .before .before .before .before .before .before .before .before .before .args .head) _ _ _ _ (c .before .before .before .before .before .before .before .before .before .before .before .before .before .before .before .before .before .before .before .args .cost) (sym (c .before .before .before .before .before .before .before .before .before .before .before .before .before .before .before .before .before .cut-asked .ensures) ∙ c .before .before .before .before .before .before .before .before .before .before .before .before .before .before .before .before .if1 .left) in (le-within _ (le-refl _) (w .tags-room), (w .units-room, (w .uses-room, (w .tracked-held, (c .before .before .before .before .before .before .before .before .before .before .before .before .before .name-of .ensures, c .before .before .before .before .before .before .before .before .find .ensures)))))
+handed-back-requires c κs =
+    let at-find = c .before .before .before .before .before .before .before .before in
+    let at-name-of = at-find .before .before .before .before .before in
+    let at-if1 = at-name-of .before .before .before in
+    let at-cut-asked = at-if1 .before in
+    let at-start = at-cut-asked .before .before in
+    let w = cut-ready (at-start .args .head) _ _ _ _ (at-start .args .cost) (sym (at-cut-asked .cut-asked .ensures) ∙ at-if1 .if1 .left) in (
+      le-within _ (le-refl _) (w .tags-room),
+      (w .units-room, (w .uses-room, (w .tracked-held, (at-name-of .name-of .ensures, at-find .find .ensures)))),
+    )
 
 noted-requires : tie.Need-noted-requires
-noted-requires c κs = let w = cut-ready (c .before .before .before .before .before .before .before .before .before .before .before .before .before .before .before .before .before .before .before .before .before .before .before .before .before .before .args .head) _ _ _ _ (c .before .before .before .before .before .before .before .before .before .before .before .before .before .before .before .before .before .before .before .before .before .before .before .before .before .before .args .cost) (sym (c .before .before .before .before .before .before .before .before .before .before .before .before .before .before .before .before .before .before .before .before .before .before .before .before .cut-asked .ensures) ∙ c .before .before .before .before .before .before .before .before .before .before .before .before .before .before .before .before .before .before .before .before .before .before .before .if1 .left) in (sum-within (c .before .before .before .before .before .before .handed-back .ensures .1 .1) (c .before .before .before .before .before .before .handed-back .ensures .1 .0) (w .counted-held) (w .tags-room) (c .before .before .before .before .before .before .handed-back .kept .1 .0), lt-by (c .before .before .before .before .before .before .handed-back .ensures .1 .0) (w .counted-held))
+noted-requires c κs =
+    let at-handed-back = c .before .before .before .before .before .before in
+    let at-if1 = at-handed-back .before .before .before .before .before .before .before .before .before .before .before .before .before .before .before .before .before in
+    let at-cut-asked = at-if1 .before in
+    let at-start = at-cut-asked .before .before in
+    let w = cut-ready (at-start .args .head) _ _ _ _ (at-start .args .cost) (sym (at-cut-asked .cut-asked .ensures) ∙ at-if1 .if1 .left) in (
+      sum-within (at-handed-back .handed-back .ensures .1 .1) (at-handed-back .handed-back .ensures .1 .0) (w .counted-held) (w .tags-room)
+          (at-handed-back .handed-back .kept .1 .0),
+      lt-by (at-handed-back .handed-back .ensures .1 .0) (w .counted-held),
+    )
 
 same-length-3 : tie.Need-same-length-3
 same-length-3 c = search needs
@@ -65,10 +109,38 @@ same-length-6 c = search needs
 
 returns-3 : tie.Need-returns-3
 unfolding cut cut-number
-returns-3 c = (simp (sym (c .before .before .before .before .before .before .before .before .before .before .before .before .before .before .before .before .before .before .before .before .before .before .before .before .before .before .before .before .cut-asked .ensures), eq-eqb _ _ (c .before .before .before .before .before .before .before .before .before .before .before .before .before .before .before .before .before .before .before .before .before .before .before .before .before .before .before .if1 .left), sym (c .before .before .before .before .before .before .before .before .before .before .before .before .before .before .before .before .before .before .before .before .before .before .before .hands-back .ensures), c .before .before .before .before .before .before .before .before .before .before .before .before .before .before .before .before .before .before .before .before .before .before .if2 .taken, sym (c .before .before .before .before .before .before .before .before .before .before .before .before .before .before .before .before .is-misplaced .ensures ∙ ap (is-misplaced _ _ _) (c .before .before .before .before .before .before .before .before .before .before .before .before .before .before .before .before .before .before .before .before .before .before .before .before .name-of .ensures)), c .before .before .before .before .before .before .before .before .before .before .before .before .before .before .before .if3 .left) (cut-is _ _ (c .before .before .before .before .before .before .before .before .before .before .before .before .before .before .before .before .before .before .before .before .before .before .before .before .before .before .before .before .before .before .args .unit) (c .before .before .before .before .before .before .before .before .before .before .before .before .before .before .before .before .before .before .before .before .before .before .before .before .before .before .before .before .before .before .args .cause) (c .before .before .before .before .before .before .before .before .before .before .before .before .before .before .before .before .before .before .before .before .before .before .before .before .before .before .before .before .before .before .args .cost) (c .before .before .before .before .before .before .before .before .before .before .handed-back .result) _ _ _ (c .before .before .before .before .before .before .before .before .before .before .before .before .before .before .before .before .before .before .before .before .before .before .before .before .name-of .result) (c .before .before .before .noted .result) _ _ (c .before .before .before .before .before .before .before .before .before .before .handed-back .ensures .0 ∙ ap (handed-back _ (c .before .before .before .before .before .before .before .before .before .before .before .before .before .before .before .before .before .before .before .before .before .before .before .before .before .before .before .before .before .before .args .unit)) (c .before .before .before .before .before .before .before .before .before .before .before .numbers .ensures)) (c .before .before .before .before .before .before .before .before .before .before .before .before .before .before .before .before .before .before .before .before .before .before .before .before .name-of .ensures) (c .before .before .before .noted .ensures .0)), c .before .before .before .noted .ensures .1 ∙ sym (c .before .before .before .before .before .before .before .before .before .before .before .before .before .before .before .before .before .before .before .before .before .before .before .before .before .before .before .if1 .left) ∙ c .before .before .before .before .before .before .before .before .before .before .before .before .before .before .before .before .before .before .before .before .before .before .before .before .before .before .before .before .cut-asked .ensures)
+returns-3 c =
+    let at-noted = c .before .before .before in
+    let at-handed-back = at-noted .before .before .before .before .before .before .before in
+    let at-numbers = at-handed-back .before in
+    let at-if3 = at-numbers .before .before .before .before in
+    let at-is-misplaced = at-if3 .before in
+    let at-if2 = at-is-misplaced .before .before .before .before .before .before in
+    let at-hands-back = at-if2 .before in
+    let at-name-of = at-hands-back .before in
+    let at-if1 = at-name-of .before .before .before in
+    let at-cut-asked = at-if1 .before in
+    let args = at-cut-asked .before .before .args in (
+      simp (
+        sym (at-cut-asked .cut-asked .ensures),
+        eq-eqb _ _ (at-if1 .if1 .left),
+        sym (at-hands-back .hands-back .ensures),
+        at-if2 .if2 .taken,
+        sym (at-is-misplaced .is-misplaced .ensures ∙ ap (is-misplaced _ _ _) (at-name-of .name-of .ensures)),
+        at-if3 .if3 .left,
+      ) (cut-is _ _ (args .unit) (args .cause) (args .cost) (at-handed-back .handed-back .result) _ _ _ (at-name-of .name-of .result)
+          (at-noted .noted .result) _ _ (at-handed-back .handed-back .ensures .0 ∙ ap (handed-back _ (args .unit)) (at-numbers .numbers .ensures))
+          (at-name-of .name-of .ensures) (at-noted .noted .ensures .0)),
+      at-noted .noted .ensures .1 ∙ sym (at-if1 .if1 .left) ∙ at-cut-asked .cut-asked .ensures,
+    )
 
 noted-requires-2 : tie.Need-noted-requires-2
-noted-requires-2 c κs = let w = cut-ready (c .before .before .before .before .before .before .before .before .before .before .args .head) _ _ _ _ (c .before .before .before .before .before .before .before .before .before .before .args .cost) (sym (c .before .before .before .before .before .before .before .before .cut-asked .ensures) ∙ c .before .before .before .before .before .before .before .if1 .left) in (sum-within refl refl (w .counted-held) (w .tags-room) refl, w .counted-held)
+noted-requires-2 c κs =
+    let at-if1 = c .before .before .before .before .before .before .before in
+    let at-cut-asked = at-if1 .before in
+    let at-start = at-cut-asked .before .before in
+    let w = cut-ready (at-start .args .head) _ _ _ _ (at-start .args .cost) (sym (at-cut-asked .cut-asked .ensures) ∙ at-if1 .if1 .left) in
+    (sum-within refl refl (w .counted-held) (w .tags-room) refl, w .counted-held)
 
 same-length-7 : tie.Need-same-length-7
 same-length-7 c = search needs
@@ -78,7 +150,19 @@ same-length-8 c = search needs
 
 returns-4 : tie.Need-returns-4
 unfolding cut cut-number
-returns-4 c = (simp (sym (c .before .before .before .before .before .before .before .before .before .before .before .before .cut-asked .ensures), eq-eqb _ _ (c .before .before .before .before .before .before .before .before .before .before .before .if1 .left), sym (c .before .before .before .before .before .before .before .hands-back .ensures), c .before .before .before .before .before .before .if2 .left) (cut-is _ _ (c .before .before .before .before .before .before .before .before .before .before .before .before .before .before .args .unit) (c .before .before .before .before .before .before .before .before .before .before .before .before .before .before .args .cause) (c .before .before .before .before .before .before .before .before .before .before .before .before .before .before .args .cost) (c .before .before .before .before .before .before .before .before .before .before .before .before .before .before .args .head) _ _ _ (c .before .before .before .before .before .before .before .before .name-of .result) (c .before .before .before .noted2 .result) _ _ refl (c .before .before .before .before .before .before .before .before .name-of .ensures) (c .before .before .before .noted2 .ensures .0)), c .before .before .before .noted2 .ensures .1 ∙ sym (c .before .before .before .before .before .before .before .before .before .before .before .if1 .left) ∙ c .before .before .before .before .before .before .before .before .before .before .before .before .cut-asked .ensures)
+returns-4 c =
+    let at-noted2 = c .before .before .before in
+    let at-if2 = at-noted2 .before .before .before in
+    let at-hands-back = at-if2 .before in
+    let at-name-of = at-hands-back .before in
+    let at-if1 = at-name-of .before .before .before in
+    let at-cut-asked = at-if1 .before in
+    let args = at-cut-asked .before .before .args in (
+      simp (sym (at-cut-asked .cut-asked .ensures), eq-eqb _ _ (at-if1 .if1 .left), sym (at-hands-back .hands-back .ensures), at-if2 .if2 .left)
+          (cut-is _ _ (args .unit) (args .cause) (args .cost) (args .head) _ _ _ (at-name-of .name-of .result) (at-noted2 .noted2 .result) _ _ refl
+          (at-name-of .name-of .ensures) (at-noted2 .noted2 .ensures .0)),
+      at-noted2 .noted2 .ensures .1 ∙ sym (at-if1 .if1 .left) ∙ at-cut-asked .cut-asked .ensures,
+    )
 
 pub cut-spec : {M : Type 1} → statement M
 cut-spec =

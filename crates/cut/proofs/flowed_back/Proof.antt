@@ -10,7 +10,9 @@ lowered-requires : tie.Need-lowered-requires
 lowered-requires c κs = search needs
 
 returns : tie.Need-returns
-returns c = flowed-back-is (c .before .before .before .before .before .before .args .f) (c .before .before .before .before .before .before .args .cost) _ _ (c .before .returned-all .ensures) (c .lowered .ensures)
+returns c =
+    let at-start = c .before .before .before .before .before .before in
+    flowed-back-is (at-start .args .f) (at-start .args .cost) _ _ (c .before .returned-all .ensures) (c .lowered .ensures)
 
 pub flowed-back-spec : {M : Type 1} → statement M
 flowed-back-spec =

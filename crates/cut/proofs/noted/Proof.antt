@@ -22,7 +22,14 @@ same-length-2 c = search needs
 
 returns : tie.Need-returns
 unfolding cut-number
-returns c = (noted-is _ (c .before .before .before .before .before .before .before .before .args .name) (c .before .before .before .before .before .before .before .before .args .cause) (c .before .before .before .before .before .before .before .before .args .t6) (c .before .before .before .before .index-of .result) (c .before .before .before .tallied .result) _ _ (c .before .before .before .before .index-of .ensures .0) (c .before .before .before .tallied .ensures .0), refl)
+returns c =
+    let at-tallied = c .before .before .before in
+    let at-index-of = at-tallied .before in
+    let at-start = at-index-of .before .before .before .before in (
+      noted-is _ (at-start .args .name) (at-start .args .cause) (at-start .args .t6) (at-index-of .index-of .result) (at-tallied .tallied .result) _ _
+          (at-index-of .index-of .ensures .0) (at-tallied .tallied .ensures .0),
+      refl,
+    )
 
 pub noted-spec : {M : Type 1} → statement M
 noted-spec =

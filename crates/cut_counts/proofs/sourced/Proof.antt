@@ -40,7 +40,14 @@ same-length-2 : tie.Need-same-length-2
 same-length-2 c = search needs
 
 returns : tie.Need-returns
-returns c = sourced-is (c .before .before .before .before .before .before .before .before .before .before .before .before .before .args .room) (c .before .before .before .before .before .before .before .before .before .before .before .before .before .args .tags .now) _ _ (c .before .before .before .before .before .before .before .before .before .before .before .before .before .args .counted .now) _ _ (c .before .before .before .before .before .before .before .before .before .before .before .before .before .args .had) (c .before .before .before .before .before .before .before .before .before .count .result) (c .before .before .before .pruned .result) (c .before .before .before .before .before .before .before .before .before .before .before .before .before .args .name) (c .before .before .before .before .before .before .before .before .before .before .before .before .before .args .cause) (c .before .before .before .before .before .before .before .before .before .before .before .before .before .pre .0) (c .before .before .before .before .before .before .before .before .before .count .ensures .0) (c .before .before .before .before .before .before .before .before .before .count .ensures .1 .0) (c .before .before .before .pruned .ensures .0) (c .before .before .before .pruned .ensures .1 .0)
+returns c =
+    let at-pruned = c .before .before .before in
+    let at-count = at-pruned .before .before .before .before .before .before in
+    let at-start = at-count .before .before .before .before in
+    let args = at-start .args in
+    sourced-is (args .room) (args .tags .now) _ _ (args .counted .now) _ _ (args .had) (at-count .count .result) (at-pruned .pruned .result)
+    (args .name) (args .cause) (at-start .pre .0) (at-count .count .ensures .0) (at-count .count .ensures .1 .0) (at-pruned .pruned .ensures .0)
+    (at-pruned .pruned .ensures .1 .0)
 
 pub sourced-spec : {M : Type 1} → statement M
 sourced-spec =

@@ -20,7 +20,13 @@ same-length-2 c = search needs
 
 returns : tie.Need-returns
 unfolding added
-returns c = (tallied-is (c .before .before .before .before .before .before .before .before .args .h) (c .added .result) (c .before .before .before .before .before .before .before .before .args .tags .now) _ (c .before .before .before .before .before .before .before .before .args .counted .now) _ (c .before .before .before .before .sourced .result) (c .before .before .before .before .before .before .before .before .args .name) (c .before .before .before .before .before .before .before .before .args .cause) (c .before .before .before .before .before .before .before .before .args .receptions) (c .before .before .before .before .sourced .ensures) (c .added .ensures), (ap (λ (h : Shedder). h .tracked) (c .added .ensures), ap (λ (h : Shedder). h .scan) (c .added .ensures)))
+returns c =
+    let at-sourced = c .before .before .before .before in
+    let args = at-sourced .before .before .before .before .args in (
+      tallied-is (args .h) (c .added .result) (args .tags .now) _ (args .counted .now) _ (at-sourced .sourced .result) (args .name) (args .cause)
+          (args .receptions) (at-sourced .sourced .ensures) (c .added .ensures),
+      (ap (λ (h : Shedder). h .tracked) (c .added .ensures), ap (λ (h : Shedder). h .scan) (c .added .ensures)),
+    )
 
 pub tallied-spec : {M : Type 1} → statement M
 tallied-spec =

@@ -1,4 +1,4 @@
--- `counted::count` meets its contract. Assumes nothing.
+-- `cut_sources::count` meets its contract. Assumes nothing.
 use borrow.Author.Needs.{needs}
 use borrow.Author.Tests.{lt-ltb, le-ltb}
 use mathlib.Core.Path.{sym}
@@ -20,10 +20,12 @@ same-length-2 c = search needs
 
 returns : tie.Need-returns
 unfolding count count-tags
-returns c = (
-  simp (sym (c .before .before .before .before .counted-find .ensures), lt-ltb _ _ (c .before .before .before .if1 .taken), c .before .counted-up .ensures),
-  (simp (sym (c .before .before .before .before .counted-find .ensures), lt-ltb _ _ (c .before .before .before .if1 .taken)), search needs),
-)
+returns c =
+    let at-if1 = c .before .before .before in
+    let at-counted-find = at-if1 .before in (
+      simp (sym (at-counted-find .counted-find .ensures), lt-ltb _ _ (at-if1 .if1 .taken), c .before .counted-up .ensures),
+      (simp (sym (at-counted-find .counted-find .ensures), lt-ltb _ _ (at-if1 .if1 .taken)), search needs),
+    )
 
 mul-tags : tie.Need-mul-tags
 mul-tags c = search needs
@@ -48,10 +50,18 @@ same-length-4 c = search needs
 
 returns-2 : tie.Need-returns-2
 unfolding count count-tags
-returns-2 c = (
-  simp (sym (c .before .before .before .before .before .before .before .before .counted-find .ensures), le-ltb _ _ (c .before .before .before .before .before .before .before .if1 .left), c .before .counted-up2 .ensures, c .before .before .before .before .counted-add .ensures),
-  (simp (sym (c .before .before .before .before .before .before .before .before .counted-find .ensures), le-ltb _ _ (c .before .before .before .before .before .before .before .if1 .left)), search needs),
-)
+returns-2 c =
+    let at-counted-add = c .before .before .before .before in
+    let at-if1 = at-counted-add .before .before .before in
+    let at-counted-find = at-if1 .before in (
+      simp (
+        sym (at-counted-find .counted-find .ensures),
+        le-ltb _ _ (at-if1 .if1 .left),
+        c .before .counted-up2 .ensures,
+        at-counted-add .counted-add .ensures,
+      ),
+      (simp (sym (at-counted-find .counted-find .ensures), le-ltb _ _ (at-if1 .if1 .left)), search needs),
+    )
 
 pub count-spec : {M : Type 1} → statement M
 count-spec =

@@ -1,4 +1,4 @@
--- `counted::counted_add` meets its contract. Assumes nothing.
+-- `cut_sources::counted_add` meets its contract. Assumes nothing.
 use borrow.Author.Needs.{needs}
 use mathlib.Core.Path.{refl}
 use Rattle.cut_sources.specs.Counted.{counted-add}

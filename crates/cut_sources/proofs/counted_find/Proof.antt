@@ -1,4 +1,4 @@
--- `counted::counted_find` meets its contract. Assumes nothing.
+-- `cut_sources::counted_find` meets its contract. Assumes nothing.
 use Prim.Native.Nat.{_≤_, _<_, _-_}
 use borrow.Author.Needs.{needs}
 use lib.ListN.{length}
@@ -31,8 +31,9 @@ reads-as-requires c κs = search needs
 returns : tie.Need-returns Inv-loop μ-loop
 unfolding counted-find
 returns c =
-    sym (first-found _ _ _ (c .before .before .loop-test .taken) (c .before .before .before .loop .inv .5)
-    (by-row _ _ _ _ _ _ refl (c .before .before .before .loop .inv .4 (c .before .before .loop-test .taken)) (c .before .reads-as .ensures) ∙ c .if1 .taken))
+    let at-loop = c .before .before .before in
+    sym (first-found _ _ _ (c .before .before .loop-test .taken) (at-loop .loop .inv .5)
+    (by-row _ _ _ _ _ _ refl (at-loop .loop .inv .4 (c .before .before .loop-test .taken)) (c .before .reads-as .ensures) ∙ c .if1 .taken))
 
 add-next-tagged : tie.Need-add-next-tagged Inv-loop μ-loop
 add-next-tagged c = search needs
@@ -44,20 +45,25 @@ loop-less : tie.Need-loop-less Inv-loop μ-loop
 loop-less c = search needs
 
 loop-again : tie.Need-loop-again Inv-loop μ-loop
-loop-again c = (
-  search needs,
-  search needs,
-  search needs,
-  refl,
-  c .next-tagged2 .ensures .1 .1 .1,
-  first-past _ _ _ _ (no-tag _ _ _) (search needs) (c .next-tagged2 .ensures .1 .1 .0)
-      (first-next _ _ (c .before .before .before .before .loop .inv .5)
-      (by-row _ _ _ _ _ _ refl (c .before .before .before .before .loop .inv .4 (c .before .before .before .loop-test .taken)) (c .before .before .reads-as .ensures) ∙ c .before .if1 .left)),
-)
+loop-again c =
+    let at-loop-test = c .before .before .before in
+    let at-loop = at-loop-test .before in (
+      search needs,
+      search needs,
+      search needs,
+      refl,
+      c .next-tagged2 .ensures .1 .1 .1,
+      first-past _ _ _ _ (no-tag _ _ _) (search needs) (c .next-tagged2 .ensures .1 .1 .0)
+          (first-next _ _ (at-loop .loop .inv .5)
+          (by-row _ _ _ _ _ _ refl (at-loop .loop .inv .4 (at-loop-test .loop-test .taken)) (c .before .before .reads-as .ensures)
+          ∙ c .before .if1 .left)),
+    )
 
 returns-2 : tie.Need-returns-2 Inv-loop μ-loop
 unfolding counted-find
-returns-2 c = let e : c .before .loop .i ≡ c .before .before .before .before .before .args .n = omega arith in sym (rw e at (c .before .loop .inv .5))
+returns-2 c =
+    let at-start = c .before .before .before .before .before in
+    let e : c .before .loop .i ≡ at-start .args .n = omega arith in sym (rw e at (c .before .loop .inv .5))
 
 pub counted-find-spec : {M : Type 1} → statement M
 counted-find-spec =

@@ -1,4 +1,4 @@
--- `counted::counted_up` meets its contract. Assumes nothing.
+-- `cut_sources::counted_up` meets its contract. Assumes nothing.
 use borrow.Author.Needs.{needs}
 use Rattle.cut_sources.specs.Counted.{counted-up}
 use Rattle.cut_sources.proofs.counted_up.Statement.{statement}

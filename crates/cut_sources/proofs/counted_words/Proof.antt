@@ -1,4 +1,4 @@
--- `counted::counted_words` meets its contract. Assumes nothing.
+-- `cut_sources::counted_words` meets its contract. Assumes nothing.
 use borrow.Author.Needs.{needs}
 use mathlib.Core.Path.{refl}
 use Rattle.store.specs.Store.{words-at}

@@ -1,4 +1,4 @@
--- `counted::counts_at` meets its contract: the row's last three words. Assumes nothing.
+-- `cut_sources::counts_at` meets its contract: the row's last three words. Assumes nothing.
 use Rattle.cut_sources.specs.Counted.{counts-at}
 use borrow.Author.Needs.{needs}
 use Rattle.cut_sources.proofs.counts_at.Statement.{statement}

@@ -1,4 +1,4 @@
--- `counted::prune` meets its contract. Assumes nothing.
+-- `cut_sources::prune` meets its contract. Assumes nothing.
 use Prim.Native.Nat.{_≤_, _-_}
 use borrow.Author.Needs.{needs}
 use lib.ListN.{length}
@@ -31,16 +31,20 @@ loop-less : tie.Need-loop-less Inv-loop μ-loop
 loop-less c = search needs
 
 loop-again : tie.Need-loop-again Inv-loop μ-loop
-loop-again c = (
-  search needs,
-  search needs,
-  omega (arith, c .before .before .before .prune-one .kept .1 .0),
-  c .before .before .before .prune-one .kept .1 .0 ∙ c .before .before .before .before .before .before .before .loop .inv .3,
-  c .before .before .before .prune-one .ensures .0 ∙ ap (λ (s : Sources). prune-one s (c .before .before .before .before .before .before .before .before .before .args .k) (c .before .before .before .before .before .before .before .loop .i)) (c .before .before .before .before .before .before .before .loop .inv .4) ∙ sym (prune-next _ _ _ (omega (arith, c .before .before .before .before .before .before .before .loop .inv .3))),
-  omega (arith, c .before .before .before .prune-one .kept .0),
-  c .before .before .before .prune-one .kept .0 ∙ c .before .before .before .before .before .before .before .loop .inv .6,
-  step-tags _ _ _ _ _ _ _ _ (c .before .before .before .before .before .before .before .loop .inv .4) (c .before .before .before .before .before .before .before .loop .inv .7) (c .before .before .before .prune-one .ensures .1 .0),
-)
+loop-again c =
+    let at-prune-one = c .before .before .before in
+    let at-loop = at-prune-one .before .before .before .before in
+    let at-start = at-loop .before .before in (
+      search needs,
+      search needs,
+      omega (arith, at-prune-one .prune-one .kept .1 .0),
+      at-prune-one .prune-one .kept .1 .0 ∙ at-loop .loop .inv .3,
+      at-prune-one .prune-one .ensures .0 ∙ ap (λ (s : Sources). prune-one s (at-start .args .k) (at-loop .loop .i)) (at-loop .loop .inv .4)
+          ∙ sym (prune-next _ _ _ (omega (arith, at-loop .loop .inv .3))),
+      omega (arith, at-prune-one .prune-one .kept .0),
+      at-prune-one .prune-one .kept .0 ∙ at-loop .loop .inv .6,
+      step-tags _ _ _ _ _ _ _ _ (at-loop .loop .inv .4) (at-loop .loop .inv .7) (at-prune-one .prune-one .ensures .1 .0),
+    )
 
 same-length : tie.Need-same-length Inv-loop μ-loop
 same-length c = c .before .loop .inv .6
@@ -49,7 +53,10 @@ same-length-2 : tie.Need-same-length-2 Inv-loop μ-loop
 same-length-2 c = c .before .loop .inv .3
 
 returns : tie.Need-returns Inv-loop μ-loop
-returns c = let e : c .before .loop .i ≡ c .before .before .before .args .n = omega arith in (rw e at (c .before .loop .inv .4), (rw e at (c .before .loop .inv .7), search needs))
+returns c =
+    let at-start = c .before .before .before in
+    let e : c .before .loop .i ≡ at-start .args .n = omega arith in
+    (rw e at (c .before .loop .inv .4), (rw e at (c .before .loop .inv .7), search needs))
 
 pub prune-spec : {M : Type 1} → statement M
 prune-spec =

@@ -1,4 +1,4 @@
--- `counted::prune_one` meets its contract. Assumes nothing.
+-- `cut_sources::prune_one` meets its contract. Assumes nothing.
 use borrow.Author.Needs.{needs}
 use borrow.Author.Tests.{lt-ltb, le-ltb}
 use lib.ListN.{length-set}

@@ -1,4 +1,4 @@
--- `counted::pruned` meets its contract. Assumes nothing.
+-- `cut_sources::pruned` meets its contract. Assumes nothing.
 use Prim.Native.Nat.{_-_}
 use borrow.Author.Needs.{needs}
 use borrow.Author.Tests.{lt-ltb, le-ltb}
@@ -27,13 +27,20 @@ same-length-2 c = search needs
 
 returns-2 : tie.Need-returns-2
 unfolding pruned pruned-tags
-returns-2 c = (
-  simp (le-ltb _ _ (c .before .before .before .before .before .before .before .before .if1 .left), sym (c .before .before .before .before .before .before .keep-from .ensures)) (c .before .before .before .prune .ensures .0),
-  (
-    simp (le-ltb _ _ (c .before .before .before .before .before .before .before .before .if1 .left), sym (c .before .before .before .before .before .before .keep-from .ensures)) (c .before .before .before .prune .ensures .1 .0),
-    (c .before .before .before .prune .ensures .1 .1, λ h. let n = frees-so _ _ _ _ _ (c .before .before .before .before .before .before .keep-from .ensures) (c .before .before .before .prune .ensures .0) (omega arith) (omega arith) in omega arith),
-  ),
-)
+returns-2 c =
+    let at-prune = c .before .before .before in
+    let at-keep-from = at-prune .before .before .before in
+    let at-if1 = at-keep-from .before .before in (
+      simp (le-ltb _ _ (at-if1 .if1 .left), sym (at-keep-from .keep-from .ensures)) (at-prune .prune .ensures .0),
+      (
+        simp (le-ltb _ _ (at-if1 .if1 .left), sym (at-keep-from .keep-from .ensures)) (at-prune .prune .ensures .1 .0),
+        (
+          at-prune .prune .ensures .1 .1,
+          λ h.
+              let n = frees-so _ _ _ _ _ (at-keep-from .keep-from .ensures) (at-prune .prune .ensures .0) (omega arith) (omega arith) in omega arith,
+        ),
+      ),
+    )
 
 pub pruned-spec : {M : Type 1} → statement M
 pruned-spec = tie.close (tie.spec returns keep-from-requires prune-requires same-length same-length-2 returns-2)

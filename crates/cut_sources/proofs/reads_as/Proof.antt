@@ -1,4 +1,4 @@
--- `counted::reads_as` meets its contract. Assumes nothing.
+-- `cut_sources::reads_as` meets its contract. Assumes nothing.
 use borrow.Author.Needs.{needs}
 use Rattle.cut_sources.specs.Counted.{reads-as}
 use Rattle.cut_sources.proofs.reads_as.Statement.{statement}
@@ -18,7 +18,9 @@ same-requires c κs = search needs
 
 returns : tie.Need-returns
 unfolding reads-as
-returns c = simp (c .same .ensures, c .before .words-of .ensures, c .before .before .unit-of .ensures, c .before .before .before .counted-words .ensures)
+returns c =
+    let at-counted-words = c .before .before .before in
+    simp (c .same .ensures, c .before .words-of .ensures, c .before .before .unit-of .ensures, at-counted-words .counted-words .ensures)
 
 pub reads-as-spec : {M : Type 1} → statement M
 reads-as-spec = tie.close (tie.spec counted-words-requires unit-of-requires words-of-requires same-requires returns)

@@ -13,7 +13,9 @@ far-requires : tie.Need-far-requires
 far-requires c κs = search needs
 
 returns : tie.Need-returns
-returns c = ap₂ (mul binary64) (c .before .short .ensures) (c .far .ensures) ∙ sym (during (c .before .before .before .args .d) (c .before .before .if1 .taken))
+returns c =
+    let at-start = c .before .before .before in
+    ap₂ (mul binary64) (c .before .short .ensures) (c .far .ensures) ∙ sym (during (at-start .args .d) (c .before .before .if1 .taken))
 
 returns-2 : tie.Need-returns-2
 unfolding ofBits

@@ -34,7 +34,22 @@ fed-requires-8 c κs = search needs
 
 returns : tie.Need-returns
 unfolding feed big-endian
-returns c = simp (c .fed8 .ensures, c .before .fed7 .ensures, c .before .before .fed6 .ensures, c .before .before .before .fed5 .ensures, c .before .before .before .before .fed4 .ensures, c .before .before .before .before .before .fed3 .ensures, c .before .before .before .before .before .before .fed2 .ensures, c .before .before .before .before .before .before .before .fed .ensures) (ap (fed _) (sym (ap (λ (n : ℕ). n % 256) (div-one _))))
+returns c =
+    let at-fed5 = c .before .before .before in
+    let at-fed4 = at-fed5 .before in
+    let at-fed3 = at-fed4 .before in
+    let at-fed2 = at-fed3 .before in
+    let at-fed = at-fed2 .before in
+    simp (
+      c .fed8 .ensures,
+      c .before .fed7 .ensures,
+      c .before .before .fed6 .ensures,
+      at-fed5 .fed5 .ensures,
+      at-fed4 .fed4 .ensures,
+      at-fed3 .fed3 .ensures,
+      at-fed2 .fed2 .ensures,
+      at-fed .fed .ensures,
+    ) (ap (fed _) (sym (ap (λ (n : ℕ). n % 256) (div-one _))))
 
 pub feed-word-spec : {M : Type 1} → statement M
 feed-word-spec =

@@ -35,7 +35,11 @@ loop-less : tie.Need-loop-less Inv-loop μ-loop
 loop-less c = search needs
 
 loop-again : tie.Need-loop-again Inv-loop μ-loop
-loop-again c = let below : c .before .before .before .before .loop .i < length (c .before .before .before .before .before .before .args .bytes .now) = search needs in (search needs, simp (c .fed .ensures, c .before .wide8 .ensures) (fed-next _ _ _ below ∙ c .before .before .before .before .loop .inv .1))
+loop-again c =
+    let at-loop = c .before .before .before .before in
+    let at-start = at-loop .before .before in
+    let below : at-loop .loop .i < length (at-start .args .bytes .now) = search needs in
+    (search needs, simp (c .fed .ensures, c .before .wide8 .ensures) (fed-next _ _ _ below ∙ at-loop .loop .inv .1))
 
 returns : tie.Need-returns Inv-loop μ-loop
 returns c = fed-all _ _ _ (c .loop-test .left) ∙ c .before .loop .inv .1

@@ -41,7 +41,14 @@ wrapping-add-u64-requires-6 : tie.Need-wrapping-add-u64-requires-6
 wrapping-add-u64-requires-6 c κs = search needs
 
 returns : tie.Need-returns
-returns c = by-shifts (c .before .before .before .before .before .before .args .x) _ _ _ _ _ _ (c .before .before .before .before .before .wrapping-add-u64 .ensures) (c .before .before .before .before .wrapping-add-u642 .ensures) (c .before .before .before .wrapping-add-u643 .ensures) (c .before .before .wrapping-add-u644 .ensures) (c .before .wrapping-add-u645 .ensures) (c .wrapping-add-u646 .ensures)
+returns c =
+    let at-wrapping-add-u643 = c .before .before .before in
+    let at-wrapping-add-u642 = at-wrapping-add-u643 .before in
+    let at-wrapping-add-u64 = at-wrapping-add-u642 .before in
+    let at-start = at-wrapping-add-u64 .before in
+    by-shifts (at-start .args .x) _ _ _ _ _ _ (at-wrapping-add-u64 .wrapping-add-u64 .ensures) (at-wrapping-add-u642 .wrapping-add-u642 .ensures)
+    (at-wrapping-add-u643 .wrapping-add-u643 .ensures) (c .before .before .wrapping-add-u644 .ensures) (c .before .wrapping-add-u645 .ensures)
+    (c .wrapping-add-u646 .ensures)
 
 pub times-prime-spec : {M : Type 1} → statement M
 times-prime-spec =

@@ -11,7 +11,11 @@ use Rattle.head.proofs.buckets.Statement.{statement}
 use Rattle.head.proofs.buckets.Tie as tie
 
 abbrev Inv-loop : tie.InvT-loop
-Inv-loop rate ceiling out₀ d₀ out d = (d ≤ dims) × (out ≡ upto (λ (i : ℕ). opened (getD rate i 0) (getD ceiling i 0)) d (replicate dims (record { tokens = nothing; burst = nothing; «rate_per_ms» = nothing })))
+Inv-loop rate ceiling out₀ d₀ out d =
+    (d ≤ dims)
+    × (out
+    ≡ upto (λ (i : ℕ). opened (getD rate i 0) (getD ceiling i 0)) d
+    (replicate dims (record { tokens = nothing; burst = nothing; «rate_per_ms» = nothing })))
 
 abbrev μ-loop : tie.MeasureT-loop
 μ-loop rate ceiling out₀ d₀ out d = dims - d

@@ -32,7 +32,24 @@ both-requires-3 c κs = search needs
 
 returns : tie.Need-returns
 unfolding head-whole
-returns c = simp (c .both3 .ensures, c .before .both2 .ensures, c .before .before .both .ensures, c .before .before .before .rooms-whole .ensures, c .before .before .before .before .tables-whole .ensures, c .before .before .before .before .before .stamps-whole .ensures, c .before .before .before .before .before .before .either .ensures, c .before .before .before .before .before .before .before .all-rates .ensures, c .before .before .before .before .before .before .before .before .is-unbounded .ensures)
+returns c =
+    let at-rooms-whole = c .before .before .before in
+    let at-tables-whole = at-rooms-whole .before in
+    let at-stamps-whole = at-tables-whole .before in
+    let at-either = at-stamps-whole .before in
+    let at-all-rates = at-either .before in
+    let at-is-unbounded = at-all-rates .before in
+    simp (
+      c .both3 .ensures,
+      c .before .both2 .ensures,
+      c .before .before .both .ensures,
+      at-rooms-whole .rooms-whole .ensures,
+      at-tables-whole .tables-whole .ensures,
+      at-stamps-whole .stamps-whole .ensures,
+      at-either .either .ensures,
+      at-all-rates .all-rates .ensures,
+      at-is-unbounded .is-unbounded .ensures,
+    )
 
 pub head-whole-spec : {M : Type 1} → statement M
 head-whole-spec =

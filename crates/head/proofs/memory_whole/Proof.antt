@@ -10,15 +10,24 @@ tags-whole-requires c κs = search needs
 
 returns : tie.Need-returns
 unfolding memory-whole
-returns c = simp (sym (c .before .before .before .before .before .before .tags-whole .ensures), c .before .before .before .before .before .if1 .taken, eq-eqb _ _ (c .before .before .before .if2 .taken), eq-eqb _ _ (c .before .if3 .taken))
+returns c =
+    let at-if2 = c .before .before .before in
+    let at-if1 = at-if2 .before .before in
+    let at-tags-whole = at-if1 .before in
+    simp (sym (at-tags-whole .tags-whole .ensures), at-if1 .if1 .taken, eq-eqb _ _ (at-if2 .if2 .taken), eq-eqb _ _ (c .before .if3 .taken))
 
 returns-2 : tie.Need-returns-2
 unfolding memory-whole
-returns-2 c = simp (sym (c .before .before .before .before .before .tags-whole .ensures), c .before .before .before .before .if1 .taken, eq-eqb _ _ (c .before .before .if2 .taken), ne-eqb _ _ (c .if3 .left))
+returns-2 c =
+    let at-if1 = c .before .before .before .before in
+    let at-tags-whole = at-if1 .before in
+    simp (sym (at-tags-whole .tags-whole .ensures), at-if1 .if1 .taken, eq-eqb _ _ (c .before .before .if2 .taken), ne-eqb _ _ (c .if3 .left))
 
 returns-3 : tie.Need-returns-3
 unfolding memory-whole
-returns-3 c = simp (sym (c .before .before .before .tags-whole .ensures), c .before .before .if1 .taken, ne-eqb _ _ (c .if2 .left))
+returns-3 c =
+    let at-tags-whole = c .before .before .before in
+    simp (sym (at-tags-whole .tags-whole .ensures), c .before .before .if1 .taken, ne-eqb _ _ (c .if2 .left))
 
 returns-4 : tie.Need-returns-4
 unfolding memory-whole

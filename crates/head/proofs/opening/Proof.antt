@@ -17,7 +17,9 @@ new-requires c κs = search needs
 
 returns : tie.Need-returns
 unfolding opening
-returns c = simp (c .before .before .before .buckets .ensures, c .before .first-levels .ensures, c .before .before .numbers .ensures, c .new .ensures)
+returns c =
+    let at-buckets = c .before .before .before in
+    simp (at-buckets .buckets .ensures, c .before .first-levels .ensures, c .before .before .numbers .ensures, c .new .ensures)
 
 pub opening-spec : {M : Type 1} → statement M
 opening-spec =

@@ -13,7 +13,9 @@ rooms-whole-requires c κs = search needs
 
 returns : tie.Need-returns
 unfolding sizes-whole
-returns c = simp (sym (c .before .before .before .tags-whole .ensures), c .before .before .if1 .taken, eq-eqb _ _ (c .before .if2 .taken)) (c .rooms-whole .ensures)
+returns c =
+    let at-tags-whole = c .before .before .before in
+    simp (sym (at-tags-whole .tags-whole .ensures), c .before .before .if1 .taken, eq-eqb _ _ (c .before .if2 .taken)) (c .rooms-whole .ensures)
 
 returns-2 : tie.Need-returns-2
 unfolding sizes-whole

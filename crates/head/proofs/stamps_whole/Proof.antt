@@ -26,7 +26,20 @@ both-requires-3 c κs = search needs
 
 returns : tie.Need-returns
 unfolding stamps-whole
-returns c = simp (c .before .before .before .before .both .ensures, c .before .both2 .ensures, c .both3 .ensures, c .before .before .before .before .before .before .is-stamp .ensures, c .before .before .before .before .before .is-stamp2 .ensures, c .before .before .before .is-stamp3 .ensures, c .before .before .is-stamp4 .ensures)
+returns c =
+    let at-is-stamp3 = c .before .before .before in
+    let at-both = at-is-stamp3 .before in
+    let at-is-stamp2 = at-both .before in
+    let at-is-stamp = at-is-stamp2 .before in
+    simp (
+      at-both .both .ensures,
+      c .before .both2 .ensures,
+      c .both3 .ensures,
+      at-is-stamp .is-stamp .ensures,
+      at-is-stamp2 .is-stamp2 .ensures,
+      at-is-stamp3 .is-stamp3 .ensures,
+      c .before .before .is-stamp4 .ensures,
+    )
 
 pub stamps-whole-spec : {M : Type 1} → statement M
 stamps-whole-spec =

@@ -21,7 +21,13 @@ opening-requires c κs = search needs
 
 returns-2 : tie.Need-returns-2
 unfolding start start-number
-returns-2 c = (simp (sym (c .before .before .before .before .before .start-asked .ensures), eq-eqb _ _ (c .before .before .before .before .if1 .left), c .opening .ensures) (ap (start-ends _ _) (c .before .clear .ensures)), sym (c .before .before .before .before .if1 .left) ∙ c .before .before .before .before .before .start-asked .ensures)
+returns-2 c =
+    let at-if1 = c .before .before .before .before in
+    let at-start-asked = at-if1 .before in (
+      simp (sym (at-start-asked .start-asked .ensures), eq-eqb _ _ (at-if1 .if1 .left), c .opening .ensures)
+          (ap (start-ends _ _) (c .before .clear .ensures)),
+      sym (at-if1 .if1 .left) ∙ at-start-asked .start-asked .ensures,
+    )
 
 pub start-spec : {M : Type 1} → statement M
 start-spec =

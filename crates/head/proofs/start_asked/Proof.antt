@@ -18,15 +18,39 @@ sizes-whole-requires c κs = search needs
 
 returns : tie.Need-returns
 unfolding start-asked
-returns c = simp (sym (c .before .before .before .before .before .is-unbounded .ensures), sym (c .before .before .before .before .all-rates .ensures), sym (c .before .before .before .either .ensures), c .before .before .if1 .taken, sym (c .before .sizes-whole .ensures), c .if2 .taken)
+returns c =
+    let at-either = c .before .before .before in
+    let at-all-rates = at-either .before in
+    let at-is-unbounded = at-all-rates .before in
+    simp (
+      sym (at-is-unbounded .is-unbounded .ensures),
+      sym (at-all-rates .all-rates .ensures),
+      sym (at-either .either .ensures),
+      c .before .before .if1 .taken,
+      sym (c .before .sizes-whole .ensures),
+      c .if2 .taken,
+    )
 
 returns-2 : tie.Need-returns-2
 unfolding start-asked
-returns-2 c = simp (sym (c .before .before .before .before .before .is-unbounded .ensures), sym (c .before .before .before .before .all-rates .ensures), sym (c .before .before .before .either .ensures), c .before .before .if1 .taken, sym (c .before .sizes-whole .ensures), c .if2 .left)
+returns-2 c =
+    let at-either = c .before .before .before in
+    let at-all-rates = at-either .before in
+    let at-is-unbounded = at-all-rates .before in
+    simp (
+      sym (at-is-unbounded .is-unbounded .ensures),
+      sym (at-all-rates .all-rates .ensures),
+      sym (at-either .either .ensures),
+      c .before .before .if1 .taken,
+      sym (c .before .sizes-whole .ensures),
+      c .if2 .left,
+    )
 
 returns-3 : tie.Need-returns-3
 unfolding start-asked
-returns-3 c = simp (sym (c .before .before .before .is-unbounded .ensures), sym (c .before .before .all-rates .ensures), sym (c .before .either .ensures), c .if1 .left)
+returns-3 c =
+    let at-is-unbounded = c .before .before .before in
+    simp (sym (at-is-unbounded .is-unbounded .ensures), sym (c .before .before .all-rates .ensures), sym (c .before .either .ensures), c .if1 .left)
 
 pub start-asked-spec : {M : Type 1} → statement M
 start-asked-spec =

@@ -14,11 +14,21 @@ is-unbounded-requires c κs = search needs
 
 returns : tie.Need-returns
 unfolding is-bounded read-asked bounded-number
-returns c = (simp (sym (c .before .before .before .before .before .head-whole .ensures), c .before .before .before .before .if1 .taken, sym (c .before .is-unbounded .ensures), c .if2 .taken), simp (sym (c .before .before .before .before .before .head-whole .ensures), c .before .before .before .before .if1 .taken))
+returns c =
+    let at-if1 = c .before .before .before .before in
+    let at-head-whole = at-if1 .before in (
+      simp (sym (at-head-whole .head-whole .ensures), at-if1 .if1 .taken, sym (c .before .is-unbounded .ensures), c .if2 .taken),
+      simp (sym (at-head-whole .head-whole .ensures), at-if1 .if1 .taken),
+    )
 
 returns-2 : tie.Need-returns-2
 unfolding is-bounded read-asked bounded-number
-returns-2 c = (simp (sym (c .before .before .before .before .before .head-whole .ensures), c .before .before .before .before .if1 .taken, sym (c .before .is-unbounded .ensures), c .if2 .left), simp (sym (c .before .before .before .before .before .head-whole .ensures), c .before .before .before .before .if1 .taken))
+returns-2 c =
+    let at-if1 = c .before .before .before .before in
+    let at-head-whole = at-if1 .before in (
+      simp (sym (at-head-whole .head-whole .ensures), at-if1 .if1 .taken, sym (c .before .is-unbounded .ensures), c .if2 .left),
+      simp (sym (at-head-whole .head-whole .ensures), at-if1 .if1 .taken),
+    )
 
 returns-3 : tie.Need-returns-3
 unfolding is-bounded read-asked bounded-number

@@ -14,7 +14,12 @@ is-unbounded-requires c κs = search needs
 
 returns : tie.Need-returns
 unfolding rate-read read-asked rate-number
-returns c = (simp (sym (c .before .before .before .before .before .head-whole .ensures), c .before .before .before .before .if1 .taken, sym (c .before .is-unbounded .ensures), c .if2 .taken), simp (sym (c .before .before .before .before .before .head-whole .ensures), c .before .before .before .before .if1 .taken))
+returns c =
+    let at-if1 = c .before .before .before .before in
+    let at-head-whole = at-if1 .before in (
+      simp (sym (at-head-whole .head-whole .ensures), at-if1 .if1 .taken, sym (c .before .is-unbounded .ensures), c .if2 .taken),
+      simp (sym (at-head-whole .head-whole .ensures), at-if1 .if1 .taken),
+    )
 
 dim-of-requires : tie.Need-dim-of-requires
 dim-of-requires c κs = search needs
@@ -27,7 +32,18 @@ array-read-t12 c = search needs
 
 returns-2 : tie.Need-returns-2
 unfolding rate-read read-asked rate-number
-returns-2 c = (simp (sym (c .before .before .before .before .before .before .head-whole .ensures), c .before .before .before .before .before .if1 .taken, sym (c .before .before .is-unbounded .ensures), c .before .if2 .left, sym (c .dim-of .ensures .0)), simp (sym (c .before .before .before .before .before .before .head-whole .ensures), c .before .before .before .before .before .if1 .taken))
+returns-2 c =
+    let at-if1 = c .before .before .before .before .before in
+    let at-head-whole = at-if1 .before in (
+      simp (
+        sym (at-head-whole .head-whole .ensures),
+        at-if1 .if1 .taken,
+        sym (c .before .before .is-unbounded .ensures),
+        c .before .if2 .left,
+        sym (c .dim-of .ensures .0),
+      ),
+      simp (sym (at-head-whole .head-whole .ensures), at-if1 .if1 .taken),
+    )
 
 returns-3 : tie.Need-returns-3
 unfolding rate-read read-asked rate-number

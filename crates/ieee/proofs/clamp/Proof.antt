@@ -18,13 +18,15 @@ returns : tie.Need-returns
 returns c =
     let a = c .before .before .args in
     let r = c .before .if1 .raised in
-    ⊎-elim (λ w. simp (c .if2 .taken) at (was-below (a .x) (a .low) (a .high) r (w .0 .taken) (w .1))) (λ w. simp (c .if2 .taken) at (was-not (a .x) (a .low) (a .high) r (w .0 .left) (w .1))) (c .before .if1 .came)
+    ⊎-elim (λ w. simp (c .if2 .taken) at (was-below (a .x) (a .low) (a .high) r (w .0 .taken) (w .1)))
+    (λ w. simp (c .if2 .taken) at (was-not (a .x) (a .low) (a .high) r (w .0 .left) (w .1))) (c .before .if1 .came)
 
 returns-2 : tie.Need-returns-2
 returns-2 c =
     let a = c .before .before .args in
     let r = c .before .if1 .raised in
-    ⊎-elim (λ w. simp (c .if2 .left) at (was-below (a .x) (a .low) (a .high) r (w .0 .taken) (w .1))) (λ w. simp (c .if2 .left) at (was-not (a .x) (a .low) (a .high) r (w .0 .left) (w .1))) (c .before .if1 .came)
+    ⊎-elim (λ w. simp (c .if2 .left) at (was-below (a .x) (a .low) (a .high) r (w .0 .taken) (w .1)))
+    (λ w. simp (c .if2 .left) at (was-not (a .x) (a .low) (a .high) r (w .0 .left) (w .1))) (c .before .if1 .came)
 
 pub clamp-spec : {M : Type 1} → statement M
 clamp-spec = tie.close (tie.spec returns returns-2)

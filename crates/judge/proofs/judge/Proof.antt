@@ -23,7 +23,12 @@ is-unbounded-requires c κs = search needs
 
 returns-2 : tie.Need-returns-2
 unfolding judge judge-number
-returns-2 c = (simp (sym (c .before .before .before .before .before .judge-asked .ensures), eq-eqb _ _ (c .before .before .before .before .if1 .left), sym (c .before .is-unbounded .ensures), c .if2 .taken), sym (c .before .before .before .before .if1 .left) ∙ c .before .before .before .before .before .judge-asked .ensures)
+returns-2 c =
+    let at-if1 = c .before .before .before .before in
+    let at-judge-asked = at-if1 .before in (
+      simp (sym (at-judge-asked .judge-asked .ensures), eq-eqb _ _ (at-if1 .if1 .left), sym (c .before .is-unbounded .ensures), c .if2 .taken),
+      sym (at-if1 .if1 .left) ∙ at-judge-asked .judge-asked .ensures,
+    )
 
 hash-of-requires : tie.Need-hash-of-requires
 hash-of-requires c κs = search needs
@@ -32,10 +37,22 @@ name-by-hash-requires : tie.Need-name-by-hash-requires
 name-by-hash-requires c κs = search needs
 
 find-requires : tie.Need-find-requires
-find-requires c κs = let w = asked-ready (c .before .before .before .before .before .before .before .before .before .before .before .args .head) _ _ _ _ (c .before .before .before .before .before .before .before .before .before .before .before .args .cost) (c .before .before .before .before .before .before .before .before .before .before .before .args .stamp) (sym (c .before .before .before .before .before .before .before .before .before .judge-asked .ensures) ∙ c .before .before .before .before .before .before .before .before .if1 .left) in (le-within _ (w .tracked-held) (w .tags-room), le-to (w .tracked-held) (w .units-room))
+find-requires c κs =
+    let at-if1 = c .before .before .before .before .before .before .before .before in
+    let at-judge-asked = at-if1 .before in
+    let at-start = at-judge-asked .before .before in
+    let w = asked-ready (at-start .args .head) _ _ _ _ (at-start .args .cost) (at-start .args .stamp)
+    (sym (at-judge-asked .judge-asked .ensures) ∙ at-if1 .if1 .left) in
+    (le-within _ (w .tracked-held) (w .tags-room), le-to (w .tracked-held) (w .units-room))
 
 is-misplaced-requires : tie.Need-is-misplaced-requires
-is-misplaced-requires c κs = let w = asked-ready (c .before .before .before .before .before .before .before .before .before .before .before .before .before .before .args .head) _ _ _ _ (c .before .before .before .before .before .before .before .before .before .before .before .before .before .before .args .cost) (c .before .before .before .before .before .before .before .before .before .before .before .before .before .before .args .stamp) (sym (c .before .before .before .before .before .before .before .before .before .before .before .before .judge-asked .ensures) ∙ c .before .before .before .before .before .before .before .before .before .before .before .if1 .left) in (le-within _ (w .tracked-held) (w .tags-room), (le-to (w .tracked-held) (w .units-room), c .before .before .find .ensures))
+is-misplaced-requires c κs =
+    let at-if1 = c .before .before .before .before .before .before .before .before .before .before .before in
+    let at-judge-asked = at-if1 .before in
+    let at-start = at-judge-asked .before .before in
+    let w = asked-ready (at-start .args .head) _ _ _ _ (at-start .args .cost) (at-start .args .stamp)
+    (sym (at-judge-asked .judge-asked .ensures) ∙ at-if1 .if1 .left) in
+    (le-within _ (w .tracked-held) (w .tags-room), (le-to (w .tracked-held) (w .units-room), c .before .before .find .ensures))
 
 same-length : tie.Need-same-length
 same-length c = search needs
@@ -45,10 +62,43 @@ same-length-2 c = search needs
 
 returns-3 : tie.Need-returns-3
 unfolding judge judge-number
-returns-3 c = (simp (sym (c .before .before .before .before .before .before .before .before .before .before .before .before .before .before .judge-asked .ensures), eq-eqb _ _ (c .before .before .before .before .before .before .before .before .before .before .before .before .before .if1 .left), sym (c .before .before .before .before .before .before .before .before .before .before .is-unbounded .ensures), c .before .before .before .before .before .before .before .before .before .if2 .left, sym ((c .before .before .before .before .before .before .before .name-by-hash .ensures ∙ ap (name-by-hash _) (c .before .before .before .before .before .before .before .before .hash-of .ensures))), sym (c .before .is-misplaced .ensures), c .if3 .taken), absurd (true≢false (sym (c .if3 .taken) ∙ c .before .is-misplaced .ensures ∙ never-nine _ _ _ _)))
+returns-3 c =
+    let at-name-by-hash = c .before .before .before .before .before .before .before in
+    let at-hash-of = at-name-by-hash .before in
+    let at-if2 = at-hash-of .before in
+    let at-is-unbounded = at-if2 .before in
+    let at-if1 = at-is-unbounded .before .before .before in
+    let at-judge-asked = at-if1 .before in (
+      simp (
+        sym (at-judge-asked .judge-asked .ensures),
+        eq-eqb _ _ (at-if1 .if1 .left),
+        sym (at-is-unbounded .is-unbounded .ensures),
+        at-if2 .if2 .left,
+        sym ((at-name-by-hash .name-by-hash .ensures ∙ ap (name-by-hash _) (at-hash-of .hash-of .ensures))),
+        sym (c .before .is-misplaced .ensures),
+        c .if3 .taken,
+      ),
+      absurd (true≢false (sym (c .if3 .taken) ∙ c .before .is-misplaced .ensures ∙ never-nine _ _ _ _)),
+    )
 
 bounded-requires : tie.Need-bounded-requires
-bounded-requires c κs = (c .before .before .before .before .before .before .before .before .before .before .before .before .before .before .hash-of .ensures, ((c .before .before .before .before .before .before .before .before .before .before .before .before .before .name-by-hash .ensures ∙ ap (name-by-hash _) (c .before .before .before .before .before .before .before .before .before .before .before .before .before .before .hash-of .ensures)), (c .before .before .before .before .before .before .before .before .before .before .find .ensures, asked-ready (c .before .before .before .before .before .before .before .before .before .before .before .before .before .before .before .before .before .before .before .before .before .before .args .head) _ _ _ _ (c .before .before .before .before .before .before .before .before .before .before .before .before .before .before .before .before .before .before .before .before .before .before .args .cost) (c .before .before .before .before .before .before .before .before .before .before .before .before .before .before .before .before .before .before .before .before .before .before .args .stamp) (sym (c .before .before .before .before .before .before .before .before .before .before .before .before .before .before .before .before .before .before .before .before .judge-asked .ensures) ∙ c .before .before .before .before .before .before .before .before .before .before .before .before .before .before .before .before .before .before .before .if1 .left))))
+bounded-requires c κs =
+    let at-find = c .before .before .before .before .before .before .before .before .before .before in
+    let at-name-by-hash = at-find .before .before .before in
+    let at-hash-of = at-name-by-hash .before in
+    let at-if1 = at-hash-of .before .before .before .before .before in
+    let at-judge-asked = at-if1 .before in
+    let at-start = at-judge-asked .before .before in (
+      at-hash-of .hash-of .ensures,
+      (
+        (at-name-by-hash .name-by-hash .ensures ∙ ap (name-by-hash _) (at-hash-of .hash-of .ensures)),
+        (
+          at-find .find .ensures,
+          asked-ready (at-start .args .head) _ _ _ _ (at-start .args .cost) (at-start .args .stamp)
+              (sym (at-judge-asked .judge-asked .ensures) ∙ at-if1 .if1 .left),
+        ),
+      ),
+    )
 
 same-length-3 : tie.Need-same-length-3
 same-length-3 c = search needs
@@ -64,7 +114,27 @@ same-length-6 c = search needs
 
 returns-4 : tie.Need-returns-4
 unfolding judge judge-number
-returns-4 c = (simp (sym (c .before .before .before .before .before .before .before .before .before .before .before .before .before .before .before .before .before .before .before .before .before .before .before .before .before .before .judge-asked .ensures), eq-eqb _ _ (c .before .before .before .before .before .before .before .before .before .before .before .before .before .before .before .before .before .before .before .before .before .before .before .before .before .if1 .left), sym (c .before .before .before .before .before .before .before .before .before .before .before .before .before .before .before .before .before .before .before .before .before .before .is-unbounded .ensures), c .before .before .before .before .before .before .before .before .before .before .before .before .before .before .before .before .before .before .before .before .before .if2 .left, sym ((c .before .before .before .before .before .before .before .before .before .before .before .before .before .before .before .before .before .before .before .name-by-hash .ensures ∙ ap (name-by-hash _) (c .before .before .before .before .before .before .before .before .before .before .before .before .before .before .before .before .before .before .before .before .hash-of .ensures))), sym (c .before .before .before .before .before .before .before .before .before .before .before .before .before .is-misplaced .ensures), c .before .before .before .before .before .before .before .before .before .before .before .before .if3 .left) (c .before .before .before .before .before .bounded .ensures .0), c .before .before .before .before .before .bounded .ensures .1 ∙ sym (c .before .before .before .before .before .before .before .before .before .before .before .before .before .before .before .before .before .before .before .before .before .before .before .before .before .if1 .left) ∙ c .before .before .before .before .before .before .before .before .before .before .before .before .before .before .before .before .before .before .before .before .before .before .before .before .before .before .judge-asked .ensures)
+returns-4 c =
+    let at-bounded = c .before .before .before .before .before in
+    let at-if3 = at-bounded .before .before .before .before .before .before .before in
+    let at-is-misplaced = at-if3 .before in
+    let at-name-by-hash = at-is-misplaced .before .before .before .before .before .before in
+    let at-hash-of = at-name-by-hash .before in
+    let at-if2 = at-hash-of .before in
+    let at-is-unbounded = at-if2 .before in
+    let at-if1 = at-is-unbounded .before .before .before in
+    let at-judge-asked = at-if1 .before in (
+      simp (
+        sym (at-judge-asked .judge-asked .ensures),
+        eq-eqb _ _ (at-if1 .if1 .left),
+        sym (at-is-unbounded .is-unbounded .ensures),
+        at-if2 .if2 .left,
+        sym ((at-name-by-hash .name-by-hash .ensures ∙ ap (name-by-hash _) (at-hash-of .hash-of .ensures))),
+        sym (at-is-misplaced .is-misplaced .ensures),
+        at-if3 .if3 .left,
+      ) (at-bounded .bounded .ensures .0),
+      at-bounded .bounded .ensures .1 ∙ sym (at-if1 .if1 .left) ∙ at-judge-asked .judge-asked .ensures,
+    )
 
 pub judge-spec : {M : Type 1} → statement M
 judge-spec =

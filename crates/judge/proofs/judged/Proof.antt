@@ -5,7 +5,11 @@ use Rattle.judge.proofs.judged.Statement.{statement}
 use Rattle.judge.proofs.judged.Tie as tie
 
 entry-requires : tie.Need-entry-requires
-entry-requires c κs = (c .before .before .before .before .before .before .before .pre .0, (c .before .before .before .before .before .before .before .pre .1 .0, (c .before .before .before .before .before .before .before .pre .1 .1 .0, (c .before .before .before .before .before .before .before .pre .1 .1 .1 .0, (c .before .before .before .before .before .before .before .pre .1 .1 .1 .1 .0, c .before .before .before .before .before .before .before .pre .1 .1 .1 .1 .1 .0)))))
+entry-requires c κs =
+    let at-start = c .before .before .before .before .before .before .before in (
+      at-start .pre .0,
+      (at-start .pre .1 .0, (at-start .pre .1 .1 .0, (at-start .pre .1 .1 .1 .0, (at-start .pre .1 .1 .1 .1 .0, at-start .pre .1 .1 .1 .1 .1 .0)))),
+    )
 
 used-at-requires : tie.Need-used-at-requires
 used-at-requires c κs = search needs
@@ -17,22 +21,46 @@ outcome-requires : tie.Need-outcome-requires
 outcome-requires c κs = search needs
 
 put-back-requires : tie.Need-put-back-requires
-put-back-requires c κs = c .before .before .before .before .before .before .before .before .before .before .before .before .entry .kept .1 .0 ∙ c .before .before .before .before .before .before .before .before .before .before .before .before .before .before .before .before .before .before .before .before .pre .1 .0 ∙ sym (c .before .before .before .before .before .before .before .before .before .before .before .before .before .before .before .before .before .before .before .before .pre .1 .1 .0) ∙ sym (c .before .before .before .before .before .before .before .before .before .before .before .before .entry .kept .1 .1 .0)
+put-back-requires c κs =
+    let at-entry = c .before .before .before .before .before .before .before .before .before .before .before .before in
+    let at-start = at-entry .before .before .before .before .before .before .before .before in
+    at-entry .entry .kept .1 .0 ∙ at-start .pre .1 .0 ∙ sym (at-start .pre .1 .1 .0) ∙ sym (at-entry .entry .kept .1 .1 .0)
 
 flowed-requires : tie.Need-flowed-requires
 flowed-requires c κs = search needs
 
 same-length : tie.Need-same-length
-same-length c = c .before .before .before .before .before .before .before .before .before .before .before .before .before .before .before .before .entry .kept .0
+same-length c =
+    let at-entry = c .before .before .before .before .before .before .before .before .before .before .before .before .before .before .before .before in
+    at-entry .entry .kept .0
 
 same-length-2 : tie.Need-same-length-2
-same-length-2 c = c .before .before .before .put-back .kept .0 ∙ c .before .before .before .before .before .before .before .before .before .before .before .before .before .before .before .before .entry .kept .1 .0
+same-length-2 c =
+    let at-put-back = c .before .before .before in
+    let at-entry = at-put-back .before .before .before .before .before .before .before .before .before .before .before .before .before in
+    at-put-back .put-back .kept .0 ∙ at-entry .entry .kept .1 .0
 
 same-length-3 : tie.Need-same-length-3
-same-length-3 c = c .before .before .before .put-back .kept .1 .0 ∙ c .before .before .before .before .before .before .before .before .before .before .before .before .before .before .before .before .entry .kept .1 .1 .0
+same-length-3 c =
+    let at-put-back = c .before .before .before in
+    let at-entry = at-put-back .before .before .before .before .before .before .before .before .before .before .before .before .before in
+    at-put-back .put-back .kept .1 .0 ∙ at-entry .entry .kept .1 .1 .0
 
 returns : tie.Need-returns
-returns c = (judged-is (c .before .before .before .before .before .before .before .before .before .before .before .before .before .before .before .before .before .before .before .before .before .before .before .before .args .head) _ (c .before .before .before .before .before .before .before .before .before .before .before .before .before .before .before .before .before .before .before .before .before .before .before .before .args .unit) (c .before .before .before .before .before .before .before .before .before .before .before .before .before .before .before .before .before .before .before .before .before .before .before .before .args .hash) (c .before .before .before .before .before .before .before .before .before .before .before .before .before .before .before .before .before .before .before .before .before .before .before .before .args .cost) (c .before .before .before .before .before .before .before .before .before .before .before .before .before .before .before .before .before .before .before .before .before .before .before .before .args .clock) (c .before .before .before .before .before .before .before .before .before .before .before .before .before .before .before .before .entry .result) _ _ _ _ _ (c .before .before .before .before .before .before .before .before .before .used-at .result) (c .before .before .before .put-back .result) (c .before .before .before .before .before .before .before .before .rank-at .result) (c .before .before .before .before .before .before .before .outcome .result) (c .flowed .result) (c .before .before .before .before .before .before .before .before .before .before .before .before .before .before .before .before .before .before .before .before .before .before .before .before .pre .1 .1 .1 .1 .1 .1) (c .before .before .before .before .before .before .before .before .before .before .before .before .before .before .before .before .entry .ensures .0) (c .before .before .before .before .before .before .before .before .before .used-at .ensures) (c .before .before .before .before .before .before .before .before .rank-at .ensures) (c .before .before .before .before .before .before .before .outcome .ensures) (c .before .before .before .put-back .ensures) (c .flowed .ensures), (c .before .before .before .before .before .before .before .before .before .before .before .before .before .before .before .before .entry .ensures .1, (refl, (refl, refl))))
+returns c =
+    let at-put-back = c .before .before .before in
+    let at-outcome = at-put-back .before .before .before .before in
+    let at-rank-at = at-outcome .before in
+    let at-used-at = at-rank-at .before in
+    let at-entry = at-used-at .before .before .before .before .before .before .before in
+    let at-start = at-entry .before .before .before .before .before .before .before .before in
+    let args = at-start .args in (
+      judged-is (args .head) _ (args .unit) (args .hash) (args .cost) (args .clock) (at-entry .entry .result) _ _ _ _ _ (at-used-at .used-at .result)
+          (at-put-back .put-back .result) (at-rank-at .rank-at .result) (at-outcome .outcome .result) (c .flowed .result)
+          (at-start .pre .1 .1 .1 .1 .1 .1) (at-entry .entry .ensures .0) (at-used-at .used-at .ensures) (at-rank-at .rank-at .ensures)
+          (at-outcome .outcome .ensures) (at-put-back .put-back .ensures) (c .flowed .ensures),
+      (at-entry .entry .ensures .1, (refl, (refl, refl))),
+    )
 
 pub judged-spec : {M : Type 1} → statement M
 judged-spec =

@@ -16,7 +16,11 @@ judged-requires : tie.Need-judged-requires
 judged-requires c κs = search needs
 
 returns : tie.Need-returns
-returns c = outcome-is (c .before .before .before .before .before .before .args .f) (c .before .before .before .before .before .before .args .level) (c .before .before .before .before .before .before .args .used) (c .before .before .before .before .before .before .args .rank) (c .before .before .before .before .before .before .args .cost) (c .before .before .before .before .before .before .args .now) _ _ _ _ (c .before .before .before .numbers .ensures) (c .before .before .fills .ensures) (c .before .since .ensures) (c .judged .ensures)
+returns c =
+    let at-numbers = c .before .before .before in
+    let args = at-numbers .before .before .before .args in
+    outcome-is (args .f) (args .level) (args .used) (args .rank) (args .cost) (args .clock) _ _ _ _ (at-numbers .numbers .ensures)
+    (c .before .before .fills .ensures) (c .before .since .ensures) (c .judged .ensures)
 
 pub outcome-spec : {M : Type 1} → statement M
 outcome-spec =

@@ -33,10 +33,16 @@ put-word-requires-4 c κs = search needs
 returns : tie.Need-returns
 unfolding key-label
 returns c =
-    let a = c .before .before .before .before .before .before .before .before .before .before .before in
-    five-front (107 ∷ 101 ∷ 121 ∷ 58 ∷ []) (word (a .args .key .a)) (word (a .args .key .b)) (word (a .args .key .c)) (word (a .args .key .d)) (now (a .args .out)) _ _
-    (let len : length (now (a .args .out)) ≡ 68 = c .before .before .before .before .before .before .before .before .before .before .put-arg .given .0 .1 in omega (arith, length-word (a .args .key .a), length-word (a .args .key .b), length-word (a .args .key .c), length-word (a .args .key .d)))
-    (c .before .before .before .before .before .before .before .before .put .ensures) (c .before .before .before .before .before .before .put-word .ensures) (c .before .before .before .before .put-word2 .ensures) (c .before .before .put-word3 .ensures) (c .put-word4 .ensures)
+    let at-put-word2 = c .before .before .before .before in
+    let at-put-word = at-put-word2 .before .before in
+    let at-put = at-put-word .before .before in
+    let at-put-arg = at-put .before .before in
+    let a = at-put-arg .before in
+    five-front (107 ∷ 101 ∷ 121 ∷ 58 ∷ []) (word (a .args .key .a)) (word (a .args .key .b)) (word (a .args .key .c)) (word (a .args .key .d))
+    (now (a .args .out)) _ _ (let len : length (now (a .args .out)) ≡ 68 = at-put-arg .put-arg .given .0 .1 in
+    omega (arith, length-word (a .args .key .a), length-word (a .args .key .b), length-word (a .args .key .c), length-word (a .args .key .d)))
+    (at-put .put .ensures) (at-put-word .put-word .ensures) (at-put-word2 .put-word2 .ensures) (c .before .before .put-word3 .ensures)
+    (c .put-word4 .ensures)
 
 pub key-text-spec : {M : Type 1} → statement M
 key-text-spec =

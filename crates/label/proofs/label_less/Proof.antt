@@ -27,7 +27,10 @@ less-requires : tie.Need-less-requires
 less-requires c κs = search needs
 
 returns : tie.Need-returns
-returns c = c .less .ensures ∙ simp (c .before .before .before .before .before .label-text .ensures .1 .0, c .before .before .before .label-text2 .ensures .1 .0)
+returns c =
+    let at-label-text2 = c .before .before .before in
+    let at-label-text = at-label-text2 .before .before in
+    c .less .ensures ∙ simp (at-label-text .label-text .ensures .1 .0, at-label-text2 .label-text2 .ensures .1 .0)
 
 pub label-less-spec : {M : Type 1} → statement M
 label-less-spec =

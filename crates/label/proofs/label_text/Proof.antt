@@ -55,11 +55,19 @@ returns c = front-as _ _ _ _ _ (c .key-text .ensures) cc
 
 returns-2 : tie.Need-returns-2
 unfolding label
-returns-2 c = front-as _ _ _ _ _ (c .v4-text .ensures) (c .v4-text .ensures .1 .0 ∙ sym (ap label (c .before .before .before .before .before .before .unit2 .given .1) ∙ ap (λ (g : Group). label (Grouped g)) (c .before .before .before .group .given .1)))
+returns-2 c =
+    let at-group = c .before .before .before in
+    let at-unit2 = at-group .before .before .before in
+    front-as _ _ _ _ _ (c .v4-text .ensures)
+    (c .v4-text .ensures .1 .0 ∙ sym (ap label (at-unit2 .unit2 .given .1) ∙ ap (λ (g : Group). label (Grouped g)) (at-group .group .given .1)))
 
 returns-3 : tie.Need-returns-3
 unfolding label
-returns-3 c = front-as _ _ _ _ _ (c .v6-text .ensures) (c .v6-text .ensures .1 .0 ∙ sym (ap label (c .before .before .before .before .before .before .unit2 .given .1) ∙ ap (λ (g : Group). label (Grouped g)) (c .before .before .before .group2 .given .1)))
+returns-3 c =
+    let at-group2 = c .before .before .before in
+    let at-unit2 = at-group2 .before .before .before in
+    front-as _ _ _ _ _ (c .v6-text .ensures)
+    (c .v6-text .ensures .1 .0 ∙ sym (ap label (at-unit2 .unit2 .given .1) ∙ ap (λ (g : Group). label (Grouped g)) (at-group2 .group2 .given .1)))
 
 returns-4 : tie.Need-returns-4
 unfolding label

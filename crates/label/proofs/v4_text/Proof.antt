@@ -45,10 +45,17 @@ put-requires-3 c κs = search needs
 returns : tie.Need-returns
 unfolding v4-label
 returns c =
-    let a = c .before .before .before .before .before .before .before .before .before .before .before .before .before in
-    let room : length (now (a .args .out)) ≡ 68 = c .before .before .before .before .before .before .before .before .before .before .before .before .put-arg .given .0 .1 in
-    five-front (118 ∷ 52 ∷ 58 ∷ []) (decimal (a .args .prefix / 256)) (46 ∷ []) (decimal (a .args .prefix % 256)) (46 ∷ 48 ∷ 46 ∷ 48 ∷ 47 ∷ 49 ∷ 54 ∷ []) (now (a .args .out)) _ _ (omega (arith, decimal-short (a .args .prefix / 256), decimal-short (a .args .prefix % 256)))
-    (c .before .before .before .before .before .before .before .before .before .before .put .ensures) (c .before .before .before .before .before .before .before .before .put-decimal .ensures) (c .before .before .before .before .before .put2 .ensures) (c .before .before .before .put-decimal2 .ensures) (c .put3 .ensures)
+    let at-put-decimal2 = c .before .before .before in
+    let at-put2 = at-put-decimal2 .before .before in
+    let at-put-decimal = at-put2 .before .before .before in
+    let at-put = at-put-decimal .before .before in
+    let at-put-arg = at-put .before .before in
+    let a = at-put-arg .before in
+    let room : length (now (a .args .out)) ≡ 68 = at-put-arg .put-arg .given .0 .1 in
+    five-front (118 ∷ 52 ∷ 58 ∷ []) (decimal (a .args .prefix / 256)) (46 ∷ []) (decimal (a .args .prefix % 256))
+    (46 ∷ 48 ∷ 46 ∷ 48 ∷ 47 ∷ 49 ∷ 54 ∷ []) (now (a .args .out)) _ _
+    (omega (arith, decimal-short (a .args .prefix / 256), decimal-short (a .args .prefix % 256))) (at-put .put .ensures)
+    (at-put-decimal .put-decimal .ensures) (at-put2 .put2 .ensures) (at-put-decimal2 .put-decimal2 .ensures) (c .put3 .ensures)
 
 pub v4-text-spec : {M : Type 1} → statement M
 v4-text-spec =

@@ -45,10 +45,17 @@ put-requires-3 c κs = search needs
 returns : tie.Need-returns
 unfolding v6-label
 returns c =
-    let a = c .before .before .before .before .before .before .before .before .before .before .before .before .before in
-    let room : length (now (a .args .out)) ≡ 68 = c .before .before .before .before .before .before .before .before .before .before .before .before .put-arg .given .0 .1 in
-    five-front (118 ∷ 54 ∷ 58 ∷ []) (hexadecimal (a .args .prefix / 65536)) (58 ∷ []) (hexadecimal (a .args .prefix % 65536)) (58 ∷ 58 ∷ 47 ∷ 51 ∷ 50 ∷ []) (now (a .args .out)) _ _ (omega (arith, hexadecimal-short (a .args .prefix / 65536), hexadecimal-short (a .args .prefix % 65536)))
-    (c .before .before .before .before .before .before .before .before .before .before .put .ensures) (c .before .before .before .before .before .before .before .before .put-hexadecimal .ensures) (c .before .before .before .before .before .put2 .ensures) (c .before .before .before .put-hexadecimal2 .ensures) (c .put3 .ensures)
+    let at-put-hexadecimal2 = c .before .before .before in
+    let at-put2 = at-put-hexadecimal2 .before .before in
+    let at-put-hexadecimal = at-put2 .before .before .before in
+    let at-put = at-put-hexadecimal .before .before in
+    let at-put-arg = at-put .before .before in
+    let a = at-put-arg .before in
+    let room : length (now (a .args .out)) ≡ 68 = at-put-arg .put-arg .given .0 .1 in
+    five-front (118 ∷ 54 ∷ 58 ∷ []) (hexadecimal (a .args .prefix / 65536)) (58 ∷ []) (hexadecimal (a .args .prefix % 65536))
+    (58 ∷ 58 ∷ 47 ∷ 51 ∷ 50 ∷ []) (now (a .args .out)) _ _
+    (omega (arith, hexadecimal-short (a .args .prefix / 65536), hexadecimal-short (a .args .prefix % 65536))) (at-put .put .ensures)
+    (at-put-hexadecimal .put-hexadecimal .ensures) (at-put2 .put2 .ensures) (at-put-hexadecimal2 .put-hexadecimal2 .ensures) (c .put3 .ensures)
 
 pub v6-text-spec : {M : Type 1} → statement M
 v6-text-spec =

@@ -22,7 +22,10 @@ same-length : tie.Need-same-length
 same-length c = search needs
 
 returns : tie.Need-returns
-returns c = let a = c .before .before .before .before .before .before .before .before .args in c .before .before .put .ensures ∙ ap (write (page (now (a .out)) (a .at))) (c .before .before .before .before .before .label-text .ensures .1 .0)
+returns c =
+    let at-label-text = c .before .before .before .before .before in
+    let a = at-label-text .before .before .before .args in
+    c .before .before .put .ensures ∙ ap (write (page (now (a .out)) (a .at))) (at-label-text .label-text .ensures .1 .0)
 
 pub write-label-spec : {M : Type 1} → statement M
 write-label-spec =

@@ -1,4 +1,4 @@
--- `spelling::byte_at` meets its contract.
+-- `label_parse::byte_at` meets its contract.
 use mathlib.Core.Path.{sym}
 use denote.Ref.{now}
 use lib.ListN.{List·getD-eq-default}

@@ -1,4 +1,4 @@
--- `spelling::digit` meets its contract: by the four tests.
+-- `label_parse::digit` meets its contract: by the four tests.
 use borrow.Author.Tests.{lt-ltb, le-ltb}
 use Rattle.label_parse.specs.Parse.{digit}
 use borrow.Author.Needs.{needs}
@@ -28,11 +28,15 @@ cast-result-2 c = search needs
 
 returns-4 : tie.Need-returns-4
 unfolding digit
-returns-4 c = simp (le-ltb _ _ (c .before .before .before .if1 .left), le-ltb _ _ (c .before .before .if2 .left), le-ltb _ _ (c .before .if3 .left), lt-ltb _ _ (c .if4 .taken))
+returns-4 c =
+    let at-if1 = c .before .before .before in
+    simp (le-ltb _ _ (at-if1 .if1 .left), le-ltb _ _ (c .before .before .if2 .left), le-ltb _ _ (c .before .if3 .left), lt-ltb _ _ (c .if4 .taken))
 
 returns-5 : tie.Need-returns-5
 unfolding digit
-returns-5 c = simp (le-ltb _ _ (c .before .before .before .if1 .left), le-ltb _ _ (c .before .before .if2 .left), le-ltb _ _ (c .before .if3 .left), le-ltb _ _ (c .if4 .left))
+returns-5 c =
+    let at-if1 = c .before .before .before in
+    simp (le-ltb _ _ (at-if1 .if1 .left), le-ltb _ _ (c .before .before .if2 .left), le-ltb _ _ (c .before .if3 .left), le-ltb _ _ (c .if4 .left))
 
 pub digit-spec : {M : Type 1} → statement M
 digit-spec =

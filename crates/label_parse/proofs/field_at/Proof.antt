@@ -1,4 +1,4 @@
--- `spelling::field_at` meets its contract. The loop's invariant: the rest of the reading gives what the whole gives, and the number has as many digits as were read.
+-- `label_parse::field_at` meets its contract. The loop's invariant: the rest of the reading gives what the whole gives, and the number has as many digits as were read.
 use mathlib.Core.Path.{_≡_, refl, sym, ap, _∙_}
 use Prim.Native.Nat.{suc, _+_, _-_, _^_, _≤_, _<_}
 use native.Mathlib.Nat.{pow-zero}

@@ -1,4 +1,4 @@
--- `spelling::is_label` meets its contract.
+-- `label_parse::is_label` meets its contract.
 use mathlib.Core.Path.{_∙_}
 use Rattle.label_parse.specs.Parse.{is-label}
 use borrow.Author.Needs.{needs}
@@ -22,7 +22,9 @@ same-requires c κs = search needs
 
 returns : tie.Need-returns
 unfolding is-label
-returns c = c .same .ensures ∙ simp (c .before .before .label-text .ensures .1 .0, c .before .before .before .before .unit-in .ensures)
+returns c =
+    let at-unit-in = c .before .before .before .before in
+    c .same .ensures ∙ simp (c .before .before .label-text .ensures .1 .0, at-unit-in .unit-in .ensures)
 
 pub is-label-spec : {M : Type 1} → statement M
 is-label-spec =

@@ -1,4 +1,4 @@
--- `spelling::key_of` meets its contract.
+-- `label_parse::key_of` meets its contract.
 use Rattle.label_parse.specs.Parse.{key-of}
 use borrow.Author.Needs.{needs}
 use Rattle.label_parse.proofs.key_of.Statement.{statement}
@@ -18,7 +18,9 @@ word-at-requires-4 c κs = search needs
 
 returns : tie.Need-returns
 unfolding key-of
-returns c = simp (c .before .before .before .word-at .ensures, c .before .before .word-at2 .ensures, c .before .word-at3 .ensures, c .word-at4 .ensures)
+returns c =
+    let at-word-at = c .before .before .before in
+    simp (at-word-at .word-at .ensures, c .before .before .word-at2 .ensures, c .before .word-at3 .ensures, c .word-at4 .ensures)
 
 pub key-of-spec : {M : Type 1} → statement M
 key-of-spec =

@@ -1,4 +1,4 @@
--- `spelling::parse` meets its contract: it is the definition, which takes exactly the labels.
+-- `label_parse::parse` meets its contract: it is the definition, which takes exactly the labels.
 use mathlib.Core.Path.{_≡_, sym}
 use Rattle.label_parse.specs.Parse.{parse}
 use Rattle.label_parse.specs.declared.Parsed.the-variants.{Unit as Taken, Nothing}
@@ -23,10 +23,14 @@ unfolding parse
 left c = simp (sym (c .before .is-label .ensures), c .if1 .left)
 
 returns : tie.Need-returns
-returns c = exact-of (now (c .before .before .before .before .args .s)) (Taken (c .unit-in .result)) (took c)
+returns c =
+    let at-start = c .before .before .before .before in
+    exact-of (now (at-start .args .s)) (Taken (c .unit-in .result)) (took c)
 
 returns-2 : tie.Need-returns-2
-returns-2 c = exact-of (now (c .before .before .before .args .s)) Nothing (left c)
+returns-2 c =
+    let at-start = c .before .before .before in
+    exact-of (now (at-start .args .s)) Nothing (left c)
 
 pub parse-spec : {M : Type 1} → statement M
 parse-spec = tie.close (tie.spec is-label-requires unit-in-requires returns returns-2)

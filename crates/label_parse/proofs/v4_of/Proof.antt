@@ -1,4 +1,4 @@
--- `spelling::v4_of` meets its contract: two fields.
+-- `label_parse::v4_of` meets its contract: two fields.
 use Prim.Native.Nat.{ℕ, _*_, _%_}
 use native.Mathlib.Omega.{arith}
 use denote.Ref.{now}
@@ -29,8 +29,10 @@ cast-result c = search needs
 returns : tie.Need-returns
 unfolding v4-of first-of second-of
 returns c =
-    two-fields 10 3 (now (c .before .before .before .before .before .before .args .s)) (c .before .before .before .before .field-at .result) (c .before .before .field-at2 .result) (λ (x : ℕ). x % 256 * 256) (λ (y : ℕ). y % 256)
-    (c .before .before .before .before .field-at .ensures .0) (c .before .before .field-at2 .ensures .0)
+    let at-field-at = c .before .before .before .before in
+    let at-start = at-field-at .before .before in
+    two-fields 10 3 (now (at-start .args .s)) (at-field-at .field-at .result) (c .before .before .field-at2 .result) (λ (x : ℕ). x % 256 * 256)
+    (λ (y : ℕ). y % 256) (at-field-at .field-at .ensures .0) (c .before .before .field-at2 .ensures .0)
 
 pub v4-of-spec : {M : Type 1} → statement M
 v4-of-spec =

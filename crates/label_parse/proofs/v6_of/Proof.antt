@@ -1,4 +1,4 @@
--- `spelling::v6_of` meets its contract: two fields.
+-- `label_parse::v6_of` meets its contract: two fields.
 use Prim.Native.Nat.{ℕ, _*_}
 use native.Mathlib.Omega.{arith}
 use denote.Ref.{now}
@@ -29,8 +29,10 @@ cast-result c = omega arith
 returns : tie.Need-returns
 unfolding v6-of first-of second-of
 returns c =
-    two-fields 16 4 (now (c .before .before .before .before .before .before .args .s)) (c .before .before .before .before .field-at .result) (c .before .before .field-at2 .result) (λ (x : ℕ). x * 65536) (λ (y : ℕ). y)
-    (c .before .before .before .before .field-at .ensures .0) (c .before .before .field-at2 .ensures .0)
+    let at-field-at = c .before .before .before .before in
+    let at-start = at-field-at .before .before in
+    two-fields 16 4 (now (at-start .args .s)) (at-field-at .field-at .result) (c .before .before .field-at2 .result) (λ (x : ℕ). x * 65536)
+    (λ (y : ℕ). y) (at-field-at .field-at .ensures .0) (c .before .before .field-at2 .ensures .0)
 
 pub v6-of-spec : {M : Type 1} → statement M
 v6-of-spec =

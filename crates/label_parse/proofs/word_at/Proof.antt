@@ -1,4 +1,4 @@
--- `spelling::word_at` meets its contract.
+-- `label_parse::word_at` meets its contract.
 use mathlib.Core.Path.{ap}
 use Rattle.label_parse.specs.Parse.{word-at}
 use Rattle.label_parse.specs.declared.Field.{Field}

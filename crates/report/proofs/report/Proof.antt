@@ -12,10 +12,21 @@ bytes-requires : tie.Need-bytes-requires
 bytes-requires c κs = search needs
 
 slice-aggregate-result : tie.Need-slice-aggregate-result
-slice-aggregate-result c = omega (arith, part-length (c .before .before .before .before .before .before .before .before .args .head) _ _ _ (c .before .before .before .before .before .before .before .before .args .counted .now) (c .before .before .before .before .before .before .before .before .args .out .now) (c .before .before .before .before .write-report .result) _ (c .before .bytes .result) (c .before .before .before .before .write-report .ensures .0) (c .before .bytes .ensures))
+slice-aggregate-result c =
+    let at-write-report = c .before .before .before .before in
+    let at-start = at-write-report .before .before .before .before in
+    omega (
+      arith,
+      part-length (at-start .args .head) _ _ _ (at-start .args .counted .now) (at-start .args .out .now) (at-write-report .write-report .result) _
+          (c .before .bytes .result) (at-write-report .write-report .ensures .0) (c .before .bytes .ensures),
+    )
 
 returns : tie.Need-returns
-returns c = part (c .before .before .before .before .before .before .before .before .args .head) _ _ _ (c .before .before .before .before .before .before .before .before .args .counted .now) (c .before .before .before .before .before .before .before .before .args .out .now) (c .before .before .before .before .write-report .result) _ (c .before .bytes .result) (c .before .before .before .before .write-report .ensures .0) (c .before .bytes .ensures)
+returns c =
+    let at-write-report = c .before .before .before .before in
+    let at-start = at-write-report .before .before .before .before in
+    part (at-start .args .head) _ _ _ (at-start .args .counted .now) (at-start .args .out .now) (at-write-report .write-report .result) _
+    (c .before .bytes .result) (at-write-report .write-report .ensures .0) (c .before .bytes .ensures)
 
 pub report-spec : {M : Type 1} → statement M
 report-spec =

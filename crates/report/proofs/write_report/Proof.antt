@@ -16,7 +16,9 @@ array-share-prefix-own : tie.Need-array-share-prefix-own
 array-share-prefix-own c = search needs
 
 slice-aggregate-put : tie.Need-slice-aggregate-put
-slice-aggregate-put c = rw (c .before .before .bytes .ensures) (c .before .before .before .composed .ensures .1 .0 .1)
+slice-aggregate-put c =
+    let at-composed = c .before .before .before in
+    rw (c .before .before .bytes .ensures) (at-composed .composed .ensures .1 .0 .1)
 
 put-requires : tie.Need-put-requires
 put-requires c κs = search needs
@@ -25,7 +27,14 @@ same-length : tie.Need-same-length
 same-length c = search needs
 
 returns : tie.Need-returns
-returns c = (written (c .before .before .before .before .before .before .before .before .before .before .args .head) _ _ _ (c .before .before .before .before .before .before .before .before .before .before .args .counted .now) (c .before .before .before .before .before .before .before .before .before .before .args .out .now) _ _ _ _ _ (c .before .before .before .before .before .before .composed .ensures .0) (c .before .before .before .before .before .bytes .ensures) (c .before .before .before .before .before .before .composed .ensures .1 .1) (c .before .before .put .ensures), ap written-number (c .before .before .before .before .before .before .composed .ensures .0) ∙ answer-number _ _ _ _ _ _)
+returns c =
+    let at-bytes = c .before .before .before .before .before in
+    let at-composed = at-bytes .before in
+    let at-start = at-composed .before .before .before .before in (
+      written (at-start .args .head) _ _ _ (at-start .args .counted .now) (at-start .args .out .now) _ _ _ _ _ (at-composed .composed .ensures .0)
+          (at-bytes .bytes .ensures) (at-composed .composed .ensures .1 .1) (c .before .before .put .ensures),
+      ap written-number (at-composed .composed .ensures .0) ∙ answer-number _ _ _ _ _ _,
+    )
 
 pub write-report-spec : {M : Type 1} → statement M
 write-report-spec =

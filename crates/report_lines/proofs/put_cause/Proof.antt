@@ -1,4 +1,4 @@
--- `lines::put_cause` meets its contract: a line of two numbers. Assumes nothing.
+-- `report_lines::put_cause` meets its contract: a line of two numbers. Assumes nothing.
 use Rattle.report_lines.specs.Lines.{cause-line}
 use borrow.Author.Needs.{needs}
 use Rattle.report_lines.proofs.put_cause.Statement.{statement}

@@ -1,4 +1,4 @@
--- `lines::put_head` meets its contract: six lines one after the other, and how long they can be. Assumes nothing.
+-- `report_lines::put_head` meets its contract: six lines one after the other, and how long they can be. Assumes nothing.
 use mathlib.Core.Path.{sym}
 use Rattle.report_lines.proofs.Lengths.{head-short}
 use Rattle.report_lines.proofs.Writing.{head-put}
@@ -58,7 +58,21 @@ same-length : tie.Need-same-length
 same-length c = search needs
 
 returns : tie.Need-returns
-returns c = (head-put (c .before .before .before .before .before .before .before .before .before .before .before .before .before .before .before .before .before .before .before .before .before .before .before .before .before .before .before .before .before .before .before .before .before .before .before .before .before .before .args .head) (c .before .before .before .before .before .before .before .before .before .before .before .before .before .before .before .before .before .before .before .before .before .before .before .before .before .before .before .before .before .before .before .before .before .is-unbounded .result) _ (c .before .before .before .before .before .before .before .before .before .before .before .before .before .before .before .before .before .before .before .before .before .before .before .before .before .before .before .before .before .before .before .before .before .is-unbounded .ensures) (c .before .before .before .before .before .before .before .before .before .before .before .before .before .before .before .before .before .before .before .before .before .before .before .before .before .before .before .before .before .put-rates .ensures) (c .before .before .before .before .before .before .before .before .before .before .before .before .before .before .before .before .before .before .before .before .before .before .before .put-rates2 .ensures) (c .before .before .before .before .before .before .before .before .before .before .before .before .before .before .before .before .before .put-line .ensures) (c .before .before .before .before .before .before .before .before .before .before .before .before .put-cause .ensures) (c .before .before .before .before .before .before .before .put-cause2 .ensures) (c .before .before .put-cause3 .ensures), head-short (c .before .before .before .before .before .before .before .before .before .before .before .before .before .before .before .before .before .before .before .before .before .before .before .before .before .before .before .before .before .before .before .before .before .before .before .before .before .before .args .head) (sym (slice-aggregate-put-rates-2 (c .before .before .before .before .before .before .before .before .before .before .before .before .before .before .before .before .before .before .before .before .before .before .before .before .before .before .before .before .before .before))) (sym (slice-aggregate-put-rates-4 (c .before .before .before .before .before .before .before .before .before .before .before .before .before .before .before .before .before .before .before .before .before .before .before .before))))
+returns c =
+    let at-put-cause2 = c .before .before .before .before .before .before .before in
+    let at-put-cause = at-put-cause2 .before .before .before .before .before in
+    let at-put-line = at-put-cause .before .before .before .before .before in
+    let at-put-rates2 = at-put-line .before .before .before .before .before .before in
+    let before-put-rates2 = at-put-rates2 .before in
+    let at-put-rates = before-put-rates2 .before .before .before .before .before in
+    let before-put-rates = at-put-rates .before in
+    let at-is-unbounded = before-put-rates .before .before .before in
+    let at-start = at-is-unbounded .before .before .before .before .before in (
+      head-put (at-start .args .head) (at-is-unbounded .is-unbounded .result) _ (at-is-unbounded .is-unbounded .ensures)
+          (at-put-rates .put-rates .ensures) (at-put-rates2 .put-rates2 .ensures) (at-put-line .put-line .ensures) (at-put-cause .put-cause .ensures)
+          (at-put-cause2 .put-cause2 .ensures) (c .before .before .put-cause3 .ensures),
+      head-short (at-start .args .head) (sym (slice-aggregate-put-rates-2 before-put-rates)) (sym (slice-aggregate-put-rates-4 before-put-rates2)),
+    )
 
 pub put-head-spec : {M : Type 1} → statement M
 put-head-spec =

@@ -1,4 +1,4 @@
--- `lines::put_line` meets its contract: a word, then its numbers. Assumes nothing.
+-- `report_lines::put_line` meets its contract: a word, then its numbers. Assumes nothing.
 use Rattle.report_lines.specs.Lines.{line, numbers}
 use Rattle.text.specs.Page.{Page, writes}
 use mathlib.Core.Path.{ap, _∙_}
@@ -17,7 +17,10 @@ same-length c = search needs
 
 returns : tie.Need-returns
 unfolding line writes
-returns c = c .before .before .put-numbers .ensures ∙ ap (λ (q : Page). writes q (numbers (c .before .before .before .before .before .before .before .before .before .before .before .args .xs .now))) (c .before .before .before .before .before .before .put .ensures)
+returns c =
+    let at-put = c .before .before .before .before .before .before in
+    let at-start = at-put .before .before .before .before .before in
+    c .before .before .put-numbers .ensures ∙ ap (λ (q : Page). writes q (numbers (at-start .args .xs .now))) (at-put .put .ensures)
 
 pub put-line-spec : {M : Type 1} → statement M
 put-line-spec = tie.close (tie.spec put-requires put-numbers-requires same-length returns)

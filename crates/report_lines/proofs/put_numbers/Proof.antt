@@ -1,4 +1,4 @@
--- `lines::put_numbers` meets its contract: the loop has the numbers from the i-th on still to write. Assumes nothing.
+-- `report_lines::put_numbers` meets its contract: the loop has the numbers from the i-th on still to write. Assumes nothing.
 use Rattle.report_lines.proofs.Writing.{numbers-next, numbers-end}
 use Rattle.report_lines.specs.Lines.{numbers}
 use Rattle.text.specs.Number.{decimal}
@@ -38,16 +38,32 @@ loop-less : tie.Need-loop-less Inv-loop μ-loop
 loop-less c = search needs
 
 loop-again : tie.Need-loop-again Inv-loop μ-loop
-loop-again c = (search needs, c .before .before .put-decimal .kept .0 ∙ c .before .before .before .before .before .before .before .put-byte .kept .0 ∙ c .before .before .before .before .before .before .before .before .before .before .loop .inv .1, c .before .before .before .before .before .before .before .before .before .before .loop .inv .2 ∙ numbers-next _ _ _ (c .before .before .before .before .before .before .before .before .before .loop-test .taken) ∙ ap (λ (q : Page). writes q (numbers (drop (c .before .before .before .before .before .before .before .before .before .before .loop .i + 1) (c .before .before .before .before .before .before .before .before .before .before .before .before .before .args .xs .now)))) (sym (c .before .before .put-decimal .ensures ∙ ap (λ (q : Page). write q (decimal (getD (c .before .before .before .before .before .before .before .before .before .before .before .before .before .args .xs .now) (c .before .before .before .before .before .before .before .before .before .before .loop .i) 0))) (c .before .before .before .before .before .before .before .put-byte .ensures))))
+loop-again c =
+    let at-put-byte = c .before .before .before .before .before .before .before in
+    let at-loop-test = at-put-byte .before .before in
+    let at-loop = at-loop-test .before in
+    let at-start = at-loop .before .before .before in (
+      search needs,
+      c .before .before .put-decimal .kept .0 ∙ at-put-byte .put-byte .kept .0 ∙ at-loop .loop .inv .1,
+      at-loop .loop .inv .2 ∙ numbers-next _ _ _ (at-loop-test .loop-test .taken)
+          ∙ ap (λ (q : Page). writes q (numbers (drop (at-loop .loop .i + 1) (at-start .args .xs .now))))
+          (sym (c .before .before .put-decimal .ensures
+          ∙ ap (λ (q : Page). write q (decimal (getD (at-start .args .xs .now) (at-loop .loop .i) 0))) (at-put-byte .put-byte .ensures))),
+    )
 
 put-byte-requires-2 : tie.Need-put-byte-requires-2 Inv-loop μ-loop
 put-byte-requires-2 c κs = search needs
 
 same-length : tie.Need-same-length Inv-loop μ-loop
-same-length c = c .before .before .put-byte2 .kept .0 ∙ c .before .before .before .before .before .loop .inv .1
+same-length c =
+    let at-loop = c .before .before .before .before .before in
+    c .before .before .put-byte2 .kept .0 ∙ at-loop .loop .inv .1
 
 returns : tie.Need-returns Inv-loop μ-loop
-returns c = c .before .before .put-byte2 .ensures ∙ sym (c .before .before .before .before .before .loop .inv .2 ∙ numbers-end _ _ _ (c .before .before .before .before .loop-test .left))
+returns c =
+    let at-loop-test = c .before .before .before .before in
+    let at-loop = at-loop-test .before in
+    c .before .before .put-byte2 .ensures ∙ sym (at-loop .loop .inv .2 ∙ numbers-end _ _ _ (at-loop-test .loop-test .left))
 
 pub put-numbers-spec : {M : Type 1} → statement M
 put-numbers-spec =

@@ -1,4 +1,4 @@
--- `lines::put_rates` meets its contract: `none`, or a line of numbers. Assumes nothing.
+-- `report_lines::put_rates` meets its contract: `none`, or a line of numbers. Assumes nothing.
 use Rattle.report_lines.specs.Lines.{line-feed, none, space, rates-line}
 use Rattle.text.specs.Page.{Page, write, writes}
 use mathlib.Core.Path.{ap, _∙_}
@@ -26,7 +26,15 @@ same-length c = search needs
 
 returns : tie.Need-returns
 unfolding rates-line writes
-returns c = simp (c .before .before .before .before .before .before .before .before .before .before .before .before .before .before .before .before .before .if1 .taken) (c .before .before .put-byte2 .ensures ∙ ap (λ (q : Page). write q line-feed) (c .before .before .before .before .before .before .put2 .ensures ∙ ap (λ (q : Page). write q none) (c .before .before .before .before .before .before .before .before .before .before .before .put-byte .ensures ∙ ap (λ (q : Page). write q space) (c .before .before .before .before .before .before .before .before .before .before .before .before .before .before .before .put .ensures))))
+returns c =
+    let at-put2 = c .before .before .before .before .before .before in
+    let at-put-byte = at-put2 .before .before .before .before .before in
+    let at-put = at-put-byte .before .before .before .before in
+    let at-if1 = at-put .before .before in
+    simp (at-if1 .if1 .taken) (c .before .before .put-byte2 .ensures
+    ∙ ap (λ (q : Page). write q line-feed)
+    (at-put2 .put2 .ensures
+    ∙ ap (λ (q : Page). write q none) (at-put-byte .put-byte .ensures ∙ ap (λ (q : Page). write q space) (at-put .put .ensures))))
 
 put-line-requires : tie.Need-put-line-requires
 put-line-requires c κs = search needs
@@ -36,7 +44,9 @@ same-length-2 c = search needs
 
 returns-2 : tie.Need-returns-2
 unfolding rates-line
-returns-2 c = simp (c .before .before .before .before .if1 .left) (c .before .before .put-line .ensures)
+returns-2 c =
+    let at-if1 = c .before .before .before .before in
+    simp (at-if1 .if1 .left) (c .before .before .put-line .ensures)
 
 pub put-rates-spec : {M : Type 1} → statement M
 put-rates-spec =

@@ -1,4 +1,4 @@
--- `lines::put_source` meets its contract: a word, a label, three numbers. Assumes nothing.
+-- `report_lines::put_source` meets its contract: a word, a label, three numbers. Assumes nothing.
 use Rattle.report_lines.proofs.Writing.{source-put}
 use borrow.Author.Needs.{needs}
 use Rattle.report_lines.proofs.put_source.Statement.{statement}
@@ -32,7 +32,16 @@ same-length : tie.Need-same-length
 same-length c = search needs
 
 returns : tie.Need-returns
-returns c = source-put (c .before .before .before .before .before .before .before .before .before .before .before .before .before .before .before .before .before .before .before .before .before .args .counted .now) (c .before .before .before .before .before .before .before .before .before .before .before .before .before .before .before .before .before .before .before .before .before .args .i) _ (c .before .before .before .before .before .before .before .before .before .unit-at .result) (c .before .before .before .before .before .before .before .before .before .before .before .before .before .before .before .before .before .before .before .counts-at .result) (c .before .before .before .before .before .before .before .before .before .unit-at .ensures) (c .before .before .before .before .before .before .before .before .before .before .before .before .before .before .before .before .before .before .before .counts-at .ensures) (c .before .before .before .before .before .before .before .before .before .before .before .before .before .before .before .before .put .ensures) (c .before .before .before .before .before .before .before .before .before .before .before .before .put-byte .ensures) (c .before .before .before .before .before .before .before .write-label .ensures) (c .before .before .put-numbers .ensures)
+returns c =
+    let at-write-label = c .before .before .before .before .before .before .before in
+    let at-unit-at = at-write-label .before .before in
+    let at-put-byte = at-unit-at .before .before .before in
+    let at-put = at-put-byte .before .before .before .before in
+    let at-counts-at = at-put .before .before .before in
+    let at-start = at-counts-at .before .before in
+    source-put (at-start .args .counted .now) (at-start .args .i) _ (at-unit-at .unit-at .result) (at-counts-at .counts-at .result)
+    (at-unit-at .unit-at .ensures) (at-counts-at .counts-at .ensures) (at-put .put .ensures) (at-put-byte .put-byte .ensures)
+    (at-write-label .write-label .ensures) (c .before .before .put-numbers .ensures)
 
 pub put-source-spec : {M : Type 1} → statement M
 put-source-spec =

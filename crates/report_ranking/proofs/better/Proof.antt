@@ -1,4 +1,4 @@
--- `ranking::better` meets its contract: one source looked at. Assumes nothing.
+-- `report_ranking::better` meets its contract: one source looked at. Assumes nothing.
 use mathlib.Core.Path.{sym, _∙_}
 use borrow.Author.Needs.{needs}
 use Rattle.report_ranking.specs.Sources.{is-after, earlier, better}
@@ -11,14 +11,21 @@ earlier-requires c κs = search needs
 
 returns : tie.Need-returns
 unfolding better
-returns c = (same-cond (is-after (c .before .before .args .counted .now) (c .before .before .args .n) (c .before .before .args .p) (c .before .before .args .i)) (earlier (c .before .before .args .counted .now) (c .before .before .args .n) (c .before .before .args .best) (c .before .before .args .i)) (c .before .before .args .best) (sym (c .before .earlier .ensures .0) ∙ c .if1 .taken), search needs)
+returns c =
+    let args = c .before .before .args in (
+      same-cond (is-after (args .counted .now) (args .n) (args .p) (args .i)) (earlier (args .counted .now) (args .n) (args .best) (args .i))
+          (args .best) (sym (c .before .earlier .ensures .0) ∙ c .if1 .taken),
+      search needs,
+    )
 
 is-after-requires : tie.Need-is-after-requires
 is-after-requires c κs = search needs
 
 returns-2 : tie.Need-returns-2
 unfolding better
-returns-2 c = (simp (sym (c .before .is-after .ensures), c .if2 .taken) (c .before .before .before .earlier .ensures .0), c .before .before .before .earlier .ensures .1)
+returns-2 c =
+    let at-earlier = c .before .before .before in
+    (simp (sym (c .before .is-after .ensures), c .if2 .taken) (at-earlier .earlier .ensures .0), at-earlier .earlier .ensures .1)
 
 returns-3 : tie.Need-returns-3
 unfolding better

@@ -1,4 +1,4 @@
--- `ranking::earlier` meets its contract: the earlier of two. Assumes nothing.
+-- `report_ranking::earlier` meets its contract: the earlier of two. Assumes nothing.
 use Rattle.report_ranking.specs.Sources.{earlier}
 use borrow.Author.Tests.{eq-eqb, ne-eqb}
 use mathlib.Core.Path.{sym}

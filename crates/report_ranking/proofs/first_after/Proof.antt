@@ -1,4 +1,4 @@
--- `ranking::first_after` meets its contract: the loop holds the earliest of those passed. Assumes nothing.
+-- `report_ranking::first_after` meets its contract: the loop holds the earliest of those passed. Assumes nothing.
 use Rattle.report_ranking.specs.Sources.{first-after, better}
 use lib.ListN.{length}
 use native.Mathlib.Omega.{arith}
@@ -38,10 +38,22 @@ loop-less : tie.Need-loop-less Inv-loop μ-loop
 loop-less c = search needs
 
 loop-again : tie.Need-loop-again Inv-loop μ-loop
-loop-again c = (search needs, search needs, search needs, c .better .ensures .1, c .better .ensures .0 ∙ ap (λ (b : ℕ). better (c .before .before .before .args .counted .now) (c .before .before .before .args .n) (c .before .before .before .args .p) b (c .before .before .loop .i)) (c .before .before .loop .inv .4) ∙ sym (first-next _ _ _ _))
+loop-again c =
+    let at-start = c .before .before .before in (
+      search needs,
+      search needs,
+      search needs,
+      c .better .ensures .1,
+      c .better .ensures .0
+          ∙ ap (λ (b : ℕ). better (at-start .args .counted .now) (at-start .args .n) (at-start .args .p) b (c .before .before .loop .i))
+          (c .before .before .loop .inv .4) ∙ sym (first-next _ _ _ _),
+    )
 
 returns : tie.Need-returns Inv-loop μ-loop
-returns c = let e : c .before .loop .i ≡ c .before .before .args .n = omega arith in (c .before .loop .inv .4 ∙ ap (first-after (c .before .before .args .counted .now) (c .before .before .args .n) (c .before .before .args .p)) e, search needs)
+returns c =
+    let args = c .before .before .args in
+    let e : c .before .loop .i ≡ args .n = omega arith in
+    (c .before .loop .inv .4 ∙ ap (first-after (args .counted .now) (args .n) (args .p)) e, search needs)
 
 pub first-after-spec : {M : Type 1} → statement M
 first-after-spec =

@@ -1,4 +1,4 @@
--- `ranking::is_after` meets its contract: each source comes after none. Assumes nothing.
+-- `report_ranking::is_after` meets its contract: each source comes after none. Assumes nothing.
 use Rattle.report_ranking.specs.Sources.{is-after}
 use borrow.Author.Tests.{eq-eqb, ne-eqb}
 use borrow.Author.Needs.{needs}

@@ -1,4 +1,4 @@
--- `ranking::label_less_at` meets its contract: keys by their words, other labels as texts. Assumes nothing.
+-- `report_ranking::label_less_at` meets its contract: keys by their words, other labels as texts. Assumes nothing.
 use mathlib.Core.Path.{ap, _∙_}
 use Rattle.text.specs.Order.{less}
 use Rattle.sender.specs.declared.Unit.{Unit}
@@ -57,18 +57,25 @@ key-less-requires c κs = search needs
 
 returns : tie.Need-returns
 unfolding words-at key-at
-returns c = c .key-less .ensures ∙ both-keys (c .before .before .before .before .before .args .counted .now) (c .before .before .before .before .before .args .i) (c .before .before .before .before .before .args .j) (c .before .before .if1 .taken) (c .before .if2 .taken)
+returns c =
+    let at-start = c .before .before .before .before .before in
+    c .key-less .ensures
+    ∙ both-keys (at-start .args .counted .now) (at-start .args .i) (at-start .args .j) (c .before .before .if1 .taken) (c .before .if2 .taken)
 
 returns-2 : tie.Need-returns-2
 unfolding words-at
-returns-2 c = first-key (c .before .before .before .before .args .counted .now) (c .before .before .before .before .args .i) (c .before .before .before .before .args .j) (c .before .if1 .taken) (c .if2 .left)
+returns-2 c =
+    let at-start = c .before .before .before .before in
+    first-key (at-start .args .counted .now) (at-start .args .i) (at-start .args .j) (c .before .if1 .taken) (c .if2 .left)
 
 array-read-if3 : tie.Need-array-read-if3
 array-read-if3 c = search needs
 
 returns-3 : tie.Need-returns-3
 unfolding words-at
-returns-3 c = second-key (c .before .before .before .before .args .counted .now) (c .before .before .before .before .args .i) (c .before .before .before .before .args .j) (c .before .if1 .left) (c .if3 .taken)
+returns-3 c =
+    let at-start = c .before .before .before .before in
+    second-key (at-start .args .counted .now) (at-start .args .i) (at-start .args .j) (c .before .if1 .left) (c .if3 .taken)
 
 unit-at-requires : tie.Need-unit-at-requires
 unit-at-requires c κs = search needs
@@ -80,7 +87,10 @@ label-less-requires : tie.Need-label-less-requires
 label-less-requires c κs = search needs
 
 returns-4 : tie.Need-returns-4
-returns-4 c = c .label-less .ensures ∙ ap (λ (u : Unit). less (label u) (label (c .before .unit-at2 .result))) (c .before .before .unit-at .ensures) ∙ ap (λ (u : Unit). less (label-at (c .before .before .before .before .before .before .before .args .counted .now) (c .before .before .before .before .before .before .before .args .i)) (label u)) (c .before .unit-at2 .ensures)
+returns-4 c =
+    let at-start = c .before .before .before .before .before .before .before in
+    c .label-less .ensures ∙ ap (λ (u : Unit). less (label u) (label (c .before .unit-at2 .result))) (c .before .before .unit-at .ensures)
+    ∙ ap (λ (u : Unit). less (label-at (at-start .args .counted .now) (at-start .args .i)) (label u)) (c .before .unit-at2 .ensures)
 
 pub label-less-at-spec : {M : Type 1} → statement M
 label-less-at-spec =

@@ -1,4 +1,4 @@
--- `ranking::label_precedes` meets its contract: labels, then places. Assumes nothing.
+-- `report_ranking::label_precedes` meets its contract: labels, then places. Assumes nothing.
 use mathlib.Core.Path.{sym}
 use borrow.Author.Needs.{needs}
 use borrow.Author.Tests.{lt-ltb, le-ltb}
@@ -21,14 +21,20 @@ label-less-at-requires-2 c κs = search needs
 returns-2 : tie.Need-returns-2
 unfolding label-precedes
 returns-2 c =
-    simp
-    (sym (c .before .before .before .label-less-at .ensures), c .before .before .if1 .left, sym (c .label-less-at2 .ensures), lt-ltb _ _ (c .before .if2 .taken))
-    (not-cond (c .label-less-at2 .result))
+    let at-label-less-at = c .before .before .before in
+    simp (
+      sym (at-label-less-at .label-less-at .ensures),
+      c .before .before .if1 .left,
+      sym (c .label-less-at2 .ensures),
+      lt-ltb _ _ (c .before .if2 .taken),
+    ) (not-cond (c .label-less-at2 .result))
 
 returns-3 : tie.Need-returns-3
 unfolding label-precedes
-returns-3 c = simp (sym (c .before .before .label-less-at .ensures), c .before .if1 .left, le-ltb _ _ (c .if2 .left))
-    (false-cond (less (label-at (c .before .before .before .args .counted .now) (c .before .before .before .args .j)) (label-at (c .before .before .before .args .counted .now) (c .before .before .before .args .i))))
+returns-3 c =
+    let args = c .before .before .before .args in
+    simp (sym (c .before .before .label-less-at .ensures), c .before .if1 .left, le-ltb _ _ (c .if2 .left))
+    (false-cond (less (label-at (args .counted .now) (args .j)) (label-at (args .counted .now) (args .i))))
 
 pub label-precedes-spec : {M : Type 1} → statement M
 label-precedes-spec = tie.close (tie.spec label-less-at-requires returns label-less-at-requires-2 returns-2 returns-3)

@@ -1,4 +1,4 @@
--- `ranking::precedes` meets its contract: totals first. Assumes nothing.
+-- `report_ranking::precedes` meets its contract: totals first. Assumes nothing.
 use Rattle.report_ranking.specs.Sources.{precedes}
 use borrow.Author.Tests.{lt-ltb, le-ltb}
 use mathlib.Core.Path.{sym}
@@ -18,14 +18,25 @@ returns c = simp (sym (c .before .before .total-at .ensures), sym (c .before .to
 
 returns-2 : tie.Need-returns-2
 unfolding precedes
-returns-2 c = simp (sym (c .before .before .before .total-at .ensures), sym (c .before .before .total-at2 .ensures), le-ltb _ _ (c .before .if1 .left), lt-ltb _ _ (c .if2 .taken))
+returns-2 c =
+    let at-total-at = c .before .before .before in
+    simp
+    (sym (at-total-at .total-at .ensures), sym (c .before .before .total-at2 .ensures), le-ltb _ _ (c .before .if1 .left), lt-ltb _ _ (c .if2 .taken))
 
 label-precedes-requires : tie.Need-label-precedes-requires
 label-precedes-requires c κs = search needs
 
 returns-3 : tie.Need-returns-3
 unfolding precedes
-returns-3 c = simp (sym (c .before .before .before .before .total-at .ensures), sym (c .before .before .before .total-at2 .ensures), le-ltb _ _ (c .before .before .if1 .left), le-ltb _ _ (c .before .if2 .left)) (c .label-precedes .ensures)
+returns-3 c =
+    let at-total-at2 = c .before .before .before in
+    let at-total-at = at-total-at2 .before in
+    simp (
+      sym (at-total-at .total-at .ensures),
+      sym (at-total-at2 .total-at2 .ensures),
+      le-ltb _ _ (c .before .before .if1 .left),
+      le-ltb _ _ (c .before .if2 .left),
+    ) (c .label-precedes .ensures)
 
 pub precedes-spec : {M : Type 1} → statement M
 precedes-spec =

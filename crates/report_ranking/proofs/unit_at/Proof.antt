@@ -1,4 +1,4 @@
--- `ranking::unit_at` meets its contract: the unit that the row's words name. Assumes nothing.
+-- `report_ranking::unit_at` meets its contract: the unit that the row's words name. Assumes nothing.
 use mathlib.Core.Path.{_∙_, ap}
 use borrow.Author.Needs.{needs}
 use Rattle.sender.specs.Sender.{unit-of}

@@ -35,7 +35,13 @@ loop-less : tie.Need-loop-less Inv-loop μ-loop
 loop-less c = search needs
 
 loop-again : tie.Need-loop-again Inv-loop μ-loop
-loop-again c = (search needs, c .add .ensures ∙ ap (λ (g : Hist). wants.added g (c .before .before .before .before .loop .d) (at (c .before .before .before .before .before .args .t3) (c .before .before .before .before .loop .d))) (c .before .before .before .before .loop .inv .1) ∙ sym (adds-next _ _ _))
+loop-again c =
+    let at-loop = c .before .before .before .before in
+    let at-start = at-loop .before in (
+      search needs,
+      c .add .ensures ∙ ap (λ (g : Hist). wants.added g (at-loop .loop .d) (at (at-start .args .t3) (at-loop .loop .d))) (at-loop .loop .inv .1)
+          ∙ sym (adds-next _ _ _),
+    )
 
 returns : tie.Need-returns Inv-loop μ-loop
 returns c = let e : c .before .loop .d ≡ dims = omega arith in (rw e at (c .before .loop .inv .1))

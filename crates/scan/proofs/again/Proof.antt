@@ -24,8 +24,12 @@ same-length-3 c = search needs
 returns : tie.Need-returns
 unfolding again
 returns c =
-    simp (le-leb _ _ (c .before .before .before .before .before .before .before .before .before .before .before .before .if1 .taken))
-    (visit-is (c .before .before .before .before .before .before .before .before .before .before .before .before .before .before .before .before .args .h) _ _ (c .before .before .before .before .before .swept .result) _ _ _ (c .visited .result) (c .before .before .before .before .before .swept .ensures .0) refl (c .before .before .before .before .before .swept .ensures .1 .0) (c .visited .ensures))
+    let at-swept = c .before .before .before .before .before in
+    let at-if1 = at-swept .before .before .before .before .before .before .before in
+    let at-start = at-if1 .before .before .before .before in
+    simp (le-leb _ _ (at-if1 .if1 .taken))
+    (visit-is (at-start .args .h) _ _ (at-swept .swept .result) _ _ _ (c .visited .result) (at-swept .swept .ensures .0) refl
+    (at-swept .swept .ensures .1 .0) (c .visited .ensures))
 
 returns-2 : tie.Need-returns-2
 unfolding again

@@ -29,7 +29,15 @@ opened-requires c κs = search needs
 
 returns-3 : tie.Need-returns-3
 unfolding begun opened
-returns-3 c = (simp (lt-leb _ _ (c .before .before .before .before .before .before .if1 .left), le-ltb _ _ (c .before .before .before .before .if2 .left), c .opened .ensures) (ap (started _) (c .before .clear .ensures)), (ap (λ (h : Shedder). h .tracked) (c .opened .ensures), le-by (ap (λ (h : Shedder). h .scan .remaining + h .scan .next) (c .opened .ensures)) (omega arith)))
+returns-3 c =
+    let at-if2 = c .before .before .before .before in
+    let at-if1 = at-if2 .before .before in (
+      simp (lt-leb _ _ (at-if1 .if1 .left), le-ltb _ _ (at-if2 .if2 .left), c .opened .ensures) (ap (started _) (c .before .clear .ensures)),
+      (
+        ap (λ (h : Shedder). h .tracked) (c .opened .ensures),
+        le-by (ap (λ (h : Shedder). h .scan .remaining + h .scan .next) (c .opened .ensures)) (omega arith),
+      ),
+    )
 
 pub begun-spec : {M : Type 1} → statement M
 begun-spec =

@@ -13,7 +13,9 @@ walk-to-stale-requires : tie.Need-walk-to-stale-requires
 walk-to-stale-requires c κs = search needs
 
 retain-requires : tie.Need-retain-requires
-retain-requires c κs = (search needs, (search needs, (search needs, (search needs, c .before .before .before .walk-to-stale .ensures .1 .0))))
+retain-requires c κs =
+    let at-walk-to-stale = c .before .before .before in
+    (search needs, (search needs, (search needs, (search needs, at-walk-to-stale .walk-to-stale .ensures .1 .0))))
 
 walk-requires : tie.Need-walk-requires
 walk-requires c κs = search needs
@@ -28,15 +30,18 @@ same-length-3 : tie.Need-same-length-3
 same-length-3 c = search needs
 
 returns : tie.Need-returns
-returns c = (
-  c .before .before .before .before .before .before .before .before .before .before .retain .ensures .0,
-  (
-    c .walk .ensures _
-        (walked-before _ _ _ _ _ _ _ _ _ (c .before .before .before .before .before .before .before .before .before .before .retain .ensures .0) (c .before .before .before .before .before .before .before .before .before .before .before .before .before .before .walk-to-stale .ensures .0) (c .before .before .before .before .before .before .before .before .before .before .before .before .before .before .walk-to-stale .ensures .1 .0)
-        (c .before .before .before .before .before .before .before .before .before .before .before .before .before .before .walk-to-stale .ensures .1 .1 ∙ ap (walk _ _ _ _) (c .before .before .before .before .before .before .before .before .before .before .before .before .before .before .before .before .before .before .before .before .walk-overflow .ensures))),
-    c .before .before .before .before .before .before .before .before .before .before .retain .ensures .1 .1,
-  ),
-)
+returns c =
+    let at-retain = c .before .before .before .before .before .before .before .before .before .before in
+    let at-walk-to-stale = at-retain .before .before .before .before in
+    let at-walk-overflow = at-walk-to-stale .before .before .before .before .before .before in (
+      at-retain .retain .ensures .0,
+      (
+        c .walk .ensures _ (walked-before _ _ _ _ _ _ _ _ _ (at-retain .retain .ensures .0) (at-walk-to-stale .walk-to-stale .ensures .0)
+            (at-walk-to-stale .walk-to-stale .ensures .1 .0)
+            (at-walk-to-stale .walk-to-stale .ensures .1 .1 ∙ ap (walk _ _ _ _) (at-walk-overflow .walk-overflow .ensures))),
+        at-retain .retain .ensures .1 .1,
+      ),
+    )
 
 pub swept-spec : {M : Type 1} → statement M
 swept-spec =

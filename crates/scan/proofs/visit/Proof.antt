@@ -25,14 +25,17 @@ same-length-3 c = search needs
 
 returns : tie.Need-returns
 unfolding visited
-returns c = (
-  visit-is (c .before .before .before .before .before .before .before .before .before .before .before .before .before .before .args .h) _ _ (c .before .before .before .before .before .swept .result) _ _ _ (c .visited .result) (c .before .before .before .before .before .swept .ensures .0) refl (c .before .before .before .before .before .swept .ensures .1 .0) (c .visited .ensures),
-  (
-    le-by (ap (λ (h : Shedder). h .tracked) (c .visited .ensures)) (c .before .before .before .before .before .swept .ensures .1 .1),
-    le-by (ap (λ (h : Shedder). h .scan .remaining + h .scan .next) (c .visited .ensures))
-        (moved-on (c .before .before .before .before .before .before .before .before .before .before .before .before .before .before .args .h .scan .remaining) (c .before .before .before .before .before .before .before .before .before .before .before .before .before .before .args .h .scan .next) (c .before .before .before .before .before .before .before .before .before .before .before .before .before .before .pre .1 .1 .1 .0) (c .before .before .before .before .before .before .before .before .before .before .before .before .before .before .pre .1 .1 .1 .1)),
-  ),
-)
+returns c =
+    let at-swept = c .before .before .before .before .before in
+    let at-start = at-swept .before .before .before .before .before .before .before .before .before in (
+      visit-is (at-start .args .h) _ _ (at-swept .swept .result) _ _ _ (c .visited .result) (at-swept .swept .ensures .0) refl
+          (at-swept .swept .ensures .1 .0) (c .visited .ensures),
+      (
+        le-by (ap (λ (h : Shedder). h .tracked) (c .visited .ensures)) (at-swept .swept .ensures .1 .1),
+        le-by (ap (λ (h : Shedder). h .scan .remaining + h .scan .next) (c .visited .ensures))
+            (moved-on (at-start .args .h .scan .remaining) (at-start .args .h .scan .next) (at-start .pre .1 .1 .1 .0) (at-start .pre .1 .1 .1 .1)),
+      ),
+    )
 
 pub visit-spec : {M : Type 1} → statement M
 visit-spec = tie.close (tie.spec swept-requires visited-requires same-length same-length-2 same-length-3 returns)

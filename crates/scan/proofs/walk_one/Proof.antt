@@ -15,7 +15,10 @@ add-all-requires c κs = search needs
 
 returns : tie.Need-returns
 unfolding walk-one walk-use
-returns c = simp (c .before .before .before .before .before .before .pre .1 .1, sym (c .before .before .before .before .use-at .ensures), sym (c .before .rates .ensures)) (c .add-all .ensures)
+returns c =
+    let at-use-at = c .before .before .before .before in
+    let at-start = at-use-at .before .before in
+    simp (at-start .pre .1 .1, sym (at-use-at .use-at .ensures), sym (c .before .rates .ensures)) (c .add-all .ensures)
 
 pub walk-one-spec : {M : Type 1} → statement M
 walk-one-spec = tie.close (tie.spec use-at-requires rates-requires add-all-requires returns)

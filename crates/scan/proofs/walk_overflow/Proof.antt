@@ -17,7 +17,11 @@ walk-use-requires c κs = search needs
 
 returns-2 : tie.Need-returns-2
 unfolding walk-overflow
-returns-2 c = simp (eq-eqb _ _ (c .before .before .before .before .before .if1 .taken), sym (c .before .before .before .before .is-fresh .ensures) ∙ c .before .before .before .if2 .left) (c .walk-use .ensures)
+returns-2 c =
+    let at-if2 = c .before .before .before in
+    let at-is-fresh = at-if2 .before in
+    let at-if1 = at-is-fresh .before in
+    simp (eq-eqb _ _ (at-if1 .if1 .taken), sym (at-is-fresh .is-fresh .ensures) ∙ at-if2 .if2 .left) (c .walk-use .ensures)
 
 returns-3 : tie.Need-returns-3
 unfolding walk-overflow

@@ -18,11 +18,19 @@ clamp-requires c κs = search needs
 
 returns : tie.Need-returns
 unfolding trim-of
-returns c = simp (sym (c .before .before .before .before .before .is-finite .ensures), c .before .before .before .before .if1 .taken, c .before .before .before .if2 .taken, c .before .before .if3 .taken) (c .clamp .ensures ∙ ap (λ (s : Float). clamped (mul binary64 (c .before .before .before .before .before .before .args .trim) s) half one) (c .before .step-of .ensures))
+returns c =
+    let at-if2 = c .before .before .before in
+    let at-if1 = at-if2 .before in
+    let at-is-finite = at-if1 .before in
+    let at-start = at-is-finite .before in
+    simp (sym (at-is-finite .is-finite .ensures), at-if1 .if1 .taken, at-if2 .if2 .taken, c .before .before .if3 .taken)
+    (c .clamp .ensures ∙ ap (λ (s : Float). clamped (mul binary64 (at-start .args .trim) s) half one) (c .before .step-of .ensures))
 
 returns-2 : tie.Need-returns-2
 unfolding trim-of
-returns-2 c = simp (sym (c .before .before .before .is-finite .ensures), c .before .before .if1 .taken, c .before .if2 .taken, c .if3 .left)
+returns-2 c =
+    let at-is-finite = c .before .before .before in
+    simp (sym (at-is-finite .is-finite .ensures), c .before .before .if1 .taken, c .before .if2 .taken, c .if3 .left)
 
 returns-3 : tie.Need-returns-3
 unfolding trim-of

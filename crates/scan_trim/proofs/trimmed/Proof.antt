@@ -20,7 +20,10 @@ levels-requires c κs = search needs
 
 returns : tie.Need-returns
 unfolding trimmed
-returns c = simp (c .levels .ensures, c .before .trims .ensures, c .before .before .span-of .ensures, c .before .before .before .opens .ensures, c .before .before .before .before .numbers .ensures)
+returns c =
+    let at-opens = c .before .before .before in
+    let at-numbers = at-opens .before in
+    simp (c .levels .ensures, c .before .trims .ensures, c .before .before .span-of .ensures, at-opens .opens .ensures, at-numbers .numbers .ensures)
 
 pub trimmed-spec : {M : Type 1} → statement M
 trimmed-spec =

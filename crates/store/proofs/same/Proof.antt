@@ -10,23 +10,54 @@ returns c = simp (ne-eqb _ _ (c .if1 .taken))
 
 returns-2 : tie.Need-returns-2
 unfolding same
-returns-2 c = simp (eq-eqb _ _ (c .before .before .before .if1 .left), ne-eqb _ _ (c .if2 .taken))
+returns-2 c =
+    let at-if1 = c .before .before .before in
+    simp (eq-eqb _ _ (at-if1 .if1 .left), ne-eqb _ _ (c .if2 .taken))
 
 returns-3 : tie.Need-returns-3
 unfolding same
-returns-3 c = simp (eq-eqb _ _ (c .before .before .before .before .before .before .if1 .left), eq-eqb _ _ (c .before .before .before .if2 .left), ne-eqb _ _ (c .if3 .taken))
+returns-3 c =
+    let at-if2 = c .before .before .before in
+    let at-if1 = at-if2 .before .before .before in
+    simp (eq-eqb _ _ (at-if1 .if1 .left), eq-eqb _ _ (at-if2 .if2 .left), ne-eqb _ _ (c .if3 .taken))
 
 returns-4 : tie.Need-returns-4
 unfolding same
-returns-4 c = simp (eq-eqb _ _ (c .before .before .before .before .before .before .before .before .before .if1 .left), eq-eqb _ _ (c .before .before .before .before .before .before .if2 .left), eq-eqb _ _ (c .before .before .before .if3 .left), ne-eqb _ _ (c .if4 .taken))
+returns-4 c =
+    let at-if3 = c .before .before .before in
+    let at-if2 = at-if3 .before .before .before in
+    let at-if1 = at-if2 .before .before .before in
+    simp (eq-eqb _ _ (at-if1 .if1 .left), eq-eqb _ _ (at-if2 .if2 .left), eq-eqb _ _ (at-if3 .if3 .left), ne-eqb _ _ (c .if4 .taken))
 
 returns-5 : tie.Need-returns-5
 unfolding same
-returns-5 c = simp (eq-eqb _ _ (c .before .before .before .before .before .before .before .before .before .before .before .before .if1 .left), eq-eqb _ _ (c .before .before .before .before .before .before .before .before .before .if2 .left), eq-eqb _ _ (c .before .before .before .before .before .before .if3 .left), eq-eqb _ _ (c .before .before .before .if4 .left), ne-eqb _ _ (c .if5 .taken))
+returns-5 c =
+    let at-if4 = c .before .before .before in
+    let at-if3 = at-if4 .before .before .before in
+    let at-if2 = at-if3 .before .before .before in
+    let at-if1 = at-if2 .before .before .before in
+    simp (
+      eq-eqb _ _ (at-if1 .if1 .left),
+      eq-eqb _ _ (at-if2 .if2 .left),
+      eq-eqb _ _ (at-if3 .if3 .left),
+      eq-eqb _ _ (at-if4 .if4 .left),
+      ne-eqb _ _ (c .if5 .taken),
+    )
 
 returns-6 : tie.Need-returns-6
 unfolding same
-returns-6 c = simp (eq-eqb _ _ (c .before .before .before .before .before .before .before .before .before .before .before .before .if1 .left), eq-eqb _ _ (c .before .before .before .before .before .before .before .before .before .if2 .left), eq-eqb _ _ (c .before .before .before .before .before .before .if3 .left), eq-eqb _ _ (c .before .before .before .if4 .left), eq-eqb _ _ (c .if5 .left))
+returns-6 c =
+    let at-if4 = c .before .before .before in
+    let at-if3 = at-if4 .before .before .before in
+    let at-if2 = at-if3 .before .before .before in
+    let at-if1 = at-if2 .before .before .before in
+    simp (
+      eq-eqb _ _ (at-if1 .if1 .left),
+      eq-eqb _ _ (at-if2 .if2 .left),
+      eq-eqb _ _ (at-if3 .if3 .left),
+      eq-eqb _ _ (at-if4 .if4 .left),
+      eq-eqb _ _ (c .if5 .left),
+    )
 
 pub same-spec : {M : Type 1} → statement M
 same-spec = tie.close (tie.spec returns returns-2 returns-3 returns-4 returns-5 returns-6)

@@ -10,11 +10,15 @@ is-at-requires c κs = search needs
 
 returns : tie.Need-returns
 unfolding is-misplaced
-returns c = simp (sym (c .before .before .before .before .pre .1 .1), lt-ltb _ _ (c .before .before .if1 .taken), sym (c .before .is-at .ensures), c .if2 .taken)
+returns c =
+    let at-start = c .before .before .before .before in
+    simp (sym (at-start .pre .1 .1), lt-ltb _ _ (c .before .before .if1 .taken), sym (c .before .is-at .ensures), c .if2 .taken)
 
 returns-2 : tie.Need-returns-2
 unfolding is-misplaced
-returns-2 c = simp (sym (c .before .before .before .before .pre .1 .1), lt-ltb _ _ (c .before .before .if1 .taken), sym (c .before .is-at .ensures), c .if2 .left)
+returns-2 c =
+    let at-start = c .before .before .before .before in
+    simp (sym (at-start .pre .1 .1), lt-ltb _ _ (c .before .before .if1 .taken), sym (c .before .is-at .ensures), c .if2 .left)
 
 returns-3 : tie.Need-returns-3
 unfolding is-misplaced

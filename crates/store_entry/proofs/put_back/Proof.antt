@@ -15,7 +15,9 @@ same-length-2 c = search needs
 
 returns : tie.Need-returns
 unfolding put-back
-returns c = simp (lt-ltb _ _ (c .before .before .before .before .before .if1 .taken), c .before .before .put-use .ensures .0, c .before .before .put-use .ensures .1)
+returns c =
+    let at-if1 = c .before .before .before .before .before in
+    simp (lt-ltb _ _ (at-if1 .if1 .taken), c .before .before .put-use .ensures .0, c .before .before .put-use .ensures .1)
 
 returns-2 : tie.Need-returns-2
 unfolding put-back

@@ -1,4 +1,4 @@
--- `retain::freed` meets its contract. Assumes nothing.
+-- `store_retain::freed` meets its contract. Assumes nothing.
 use borrow.Author.Needs.{needs}
 use mathlib.Core.Path.{refl}
 use Rattle.store_retain.specs.Retain.{freed}

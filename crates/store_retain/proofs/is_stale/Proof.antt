@@ -1,4 +1,4 @@
--- `retain::is_stale` meets its contract. Assumes nothing.
+-- `store_retain::is_stale` meets its contract. Assumes nothing.
 use borrow.Author.Needs.{needs}
 use borrow.Author.Tests.{eq-eqb, ne-eqb}
 use mathlib.Core.Path.{sym}
@@ -18,7 +18,9 @@ since-requires c κs = search needs
 
 returns : tie.Need-returns
 unfolding is-stale in-table
-returns c = simp (sym (c .before .before .before .table-at .ensures), eq-eqb _ _ (c .before .before .if1 .taken), c .since .ensures, c .before .stamp-at .ensures)
+returns c =
+    let at-table-at = c .before .before .before in
+    simp (sym (at-table-at .table-at .ensures), eq-eqb _ _ (c .before .before .if1 .taken), c .since .ensures, c .before .stamp-at .ensures)
 
 returns-2 : tie.Need-returns-2
 unfolding is-stale in-table

@@ -1,4 +1,4 @@
--- `retain::moved` meets its contract. Assumes nothing.
+-- `store_retain::moved` meets its contract. Assumes nothing.
 use borrow.Author.Needs.{needs}
 use lib.ListN.{length-set}
 use mathlib.Core.Path.{refl}

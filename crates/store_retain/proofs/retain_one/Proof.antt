@@ -1,4 +1,4 @@
--- `retain::retain_one` meets its contract. Assumes nothing.
+-- `store_retain::retain_one` meets its contract. Assumes nothing.
 use borrow.Author.Needs.{needs}
 use borrow.Author.Tests.{lt-ltb, le-ltb}
 use mathlib.Core.Path.{sym, ap}
@@ -23,7 +23,11 @@ same-length-3 c = search needs
 
 returns : tie.Need-returns
 unfolding retain-one
-returns c = (simp (sym (c .before .before .before .before .before .before .before .before .before .is-stale .ensures), c .before .before .before .before .before .before .before .before .if1 .taken) (ap (kept _) (c .before .before .before .before .freed .ensures)), search needs)
+returns c =
+    let at-freed = c .before .before .before .before in
+    let at-if1 = at-freed .before .before .before .before in
+    let at-is-stale = at-if1 .before in
+    (simp (sym (at-is-stale .is-stale .ensures), at-if1 .if1 .taken) (ap (kept _) (at-freed .freed .ensures)), search needs)
 
 moved-requires : tie.Need-moved-requires
 moved-requires c κs = search needs
@@ -42,7 +46,14 @@ same-length-6 c = search needs
 
 returns-2 : tie.Need-returns-2
 unfolding retain-one
-returns-2 c = (simp (sym (c .before .before .before .before .before .before .before .before .before .before .is-stale .ensures), c .before .before .before .before .before .before .before .before .before .if1 .left, lt-ltb _ _ (c .before .before .before .before .before .before .before .before .if2 .taken)) (ap (kept _) (c .before .before .before .before .moved .ensures)), search needs)
+returns-2 c =
+    let at-moved = c .before .before .before .before in
+    let at-if2 = at-moved .before .before .before .before in
+    let at-if1 = at-if2 .before in
+    let at-is-stale = at-if1 .before in (
+      simp (sym (at-is-stale .is-stale .ensures), at-if1 .if1 .left, lt-ltb _ _ (at-if2 .if2 .taken)) (ap (kept _) (at-moved .moved .ensures)),
+      search needs,
+    )
 
 add-result-2 : tie.Need-add-result-2
 add-result-2 c = search needs

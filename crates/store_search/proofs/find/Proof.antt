@@ -1,4 +1,4 @@
--- `search::find` meets its contract. Assumes nothing.
+-- `store_search::find` meets its contract. Assumes nothing.
 use Prim.Native.Nat.{_≤_, _-_}
 use borrow.Author.Needs.{needs}
 use lib.ListN.{length}
@@ -26,7 +26,9 @@ is-at-requires c κs = search needs
 
 returns : tie.Need-returns Inv-loop μ-loop
 unfolding find
-returns c = sym (first-found _ _ _ (c .before .before .loop-test .taken) (c .before .before .before .loop .inv .3) (sym (c .before .is-at .ensures) ∙ c .if1 .taken))
+returns c =
+    let at-loop = c .before .before .before in
+    sym (first-found _ _ _ (c .before .before .loop-test .taken) (at-loop .loop .inv .3) (sym (c .before .is-at .ensures) ∙ c .if1 .taken))
 
 add-next-tagged : tie.Need-add-next-tagged Inv-loop μ-loop
 add-next-tagged c = search needs
@@ -38,11 +40,20 @@ loop-less : tie.Need-loop-less Inv-loop μ-loop
 loop-less c = search needs
 
 loop-again : tie.Need-loop-again Inv-loop μ-loop
-loop-again c = (search needs, search needs, search needs, first-past _ _ _ _ (no-tag _ _ _) (search needs) (c .next-tagged2 .ensures .1 .1 .0) (first-next _ _ (c .before .before .before .before .loop .inv .3) (sym (c .before .before .is-at .ensures) ∙ c .before .if1 .left)))
+loop-again c =
+    let at-loop = c .before .before .before .before in (
+      search needs,
+      search needs,
+      search needs,
+      first-past _ _ _ _ (no-tag _ _ _) (search needs) (c .next-tagged2 .ensures .1 .1 .0)
+          (first-next _ _ (at-loop .loop .inv .3) (sym (c .before .before .is-at .ensures) ∙ c .before .if1 .left)),
+    )
 
 returns-2 : tie.Need-returns-2 Inv-loop μ-loop
 unfolding find
-returns-2 c = let e : c .before .loop .i ≡ c .before .before .before .before .args .n = omega arith in sym (rw e at (c .before .loop .inv .3))
+returns-2 c =
+    let at-start = c .before .before .before .before in
+    let e : c .before .loop .i ≡ at-start .args .n = omega arith in sym (rw e at (c .before .loop .inv .3))
 
 pub find-spec : {M : Type 1} → statement M
 find-spec =

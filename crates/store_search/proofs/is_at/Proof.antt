@@ -1,4 +1,4 @@
--- `search::is_at` meets its contract. Assumes nothing.
+-- `store_search::is_at` meets its contract. Assumes nothing.
 use borrow.Author.Needs.{needs}
 use borrow.Author.Tests.{eq-eqb, ne-eqb}
 use Rattle.store.specs.Store.{is-at}
@@ -19,7 +19,9 @@ same-requires c κs = search needs
 
 returns : tie.Need-returns
 unfolding is-at
-returns c = simp (eq-eqb _ _ (c .before .before .before .if1 .taken), c .same .ensures, c .before .words-at .ensures)
+returns c =
+    let at-if1 = c .before .before .before in
+    simp (eq-eqb _ _ (at-if1 .if1 .taken), c .same .ensures, c .before .words-at .ensures)
 
 returns-2 : tie.Need-returns-2
 unfolding is-at

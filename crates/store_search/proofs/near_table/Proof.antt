@@ -1,4 +1,4 @@
--- `search::near_table` meets its contract: where none is met, no place passed is of the table. Assumes nothing.
+-- `store_search::near_table` meets its contract: where none is met, no place passed is of the table. Assumes nothing.
 use Prim.Native.Nat.{_+_, _-_, _≤_}
 use borrow.Author.Needs.{needs}
 use borrow.Author.Tests.{ne-eqb}
@@ -41,15 +41,17 @@ loop-less c = search needs
 
 loop-again : tie.Need-loop-again Inv-loop μ-loop
 unfolding in-table
-loop-again c = (
-  search needs,
-  search needs,
-  c .before .before .before .before .loop .inv .2,
-  elim (c .if1 .came) [
-    | inl t ↦ λ f. absurd (true≢false (sym (t .1) ∙ f))
-    | inr t ↦ λ f. none-more _ _ _ (c .before .before .before .before .loop .inv .3 (sym (t .1) ∙ f)) (ne-eqb _ _ (λ q. t .0 .left (c .before .lower2 .ensures ∙ ap lower (c .before .before .table-at .ensures ∙ q) ∙ sym (c .before .before .before .before .loop .inv .2))))
-  ],
-)
+loop-again c =
+    let at-loop = c .before .before .before .before in (
+      search needs,
+      search needs,
+      at-loop .loop .inv .2,
+      elim (c .if1 .came) [
+        | inl t ↦ λ f. absurd (true≢false (sym (t .1) ∙ f))
+        | inr t ↦ λ f. none-more _ _ _ (at-loop .loop .inv .3 (sym (t .1) ∙ f))
+            (ne-eqb _ _ (λ q. t .0 .left (c .before .lower2 .ensures ∙ ap lower (c .before .before .table-at .ensures ∙ q) ∙ sym (at-loop .loop .inv .2))))
+      ],
+    )
 
 returns : tie.Need-returns Inv-loop μ-loop
 returns c = let e : c .before .loop .k ≡ 16 = omega arith in λ f. rw e at (c .before .loop .inv .3 f)

@@ -1,4 +1,4 @@
--- `search::near_tag` meets its contract: where the tag is not met, no place passed has it. Assumes nothing.
+-- `store_search::near_tag` meets its contract: where the tag is not met, no place passed has it. Assumes nothing.
 use Prim.Native.Nat.{_+_, _-_, _≤_}
 use borrow.Author.Needs.{needs}
 use borrow.Author.Tests.{ne-eqb}
@@ -38,14 +38,15 @@ loop-less c = search needs
 
 loop-again : tie.Need-loop-again Inv-loop μ-loop
 unfolding has-tag
-loop-again c = (
-  search needs,
-  search needs,
-  elim (c .if1 .came) [
-    | inl t ↦ λ f. absurd (true≢false (sym (t .1) ∙ f))
-    | inr t ↦ λ f. none-more _ _ _ (c .before .before .before .loop .inv .2 (sym (t .1) ∙ f)) (ne-eqb _ _ (t .0 .left))
-  ],
-)
+loop-again c =
+    let at-loop = c .before .before .before in (
+      search needs,
+      search needs,
+      elim (c .if1 .came) [
+        | inl t ↦ λ f. absurd (true≢false (sym (t .1) ∙ f))
+        | inr t ↦ λ f. none-more _ _ _ (at-loop .loop .inv .2 (sym (t .1) ∙ f)) (ne-eqb _ _ (t .0 .left))
+      ],
+    )
 
 returns : tie.Need-returns Inv-loop μ-loop
 returns c = let e : c .before .loop .k ≡ 32 = omega arith in λ f. rw e at (c .before .loop .inv .2 f)

@@ -23,11 +23,17 @@ same-requires-2 c κs = search needs
 
 returns-2 : tie.Need-returns-2
 unfolding cause-in
-returns-2 c = simp (sym (c .before .before .before .before .same .ensures), c .before .before .before .if1 .left, sym (c .before .same2 .ensures), c .if2 .taken)
+returns-2 c =
+    let at-if1 = c .before .before .before in
+    let at-same = at-if1 .before in
+    simp (sym (at-same .same .ensures), at-if1 .if1 .left, sym (c .before .same2 .ensures), c .if2 .taken)
 
 returns-3 : tie.Need-returns-3
 unfolding cause-in
-returns-3 c = simp (sym (c .before .before .before .before .same .ensures), c .before .before .before .if1 .left, sym (c .before .same2 .ensures), c .if2 .left)
+returns-3 c =
+    let at-if1 = c .before .before .before in
+    let at-same = at-if1 .before in
+    simp (sym (at-same .same .ensures), at-if1 .if1 .left, sym (c .before .same2 .ensures), c .if2 .left)
 
 pub cause-in-spec : {M : Type 1} → statement M
 cause-in-spec =

@@ -19,7 +19,16 @@ cut-of-requires c κs = search needs
 
 returns : tie.Need-returns
 unfolding cut-in
-returns c = simp (sym (c .before .before .before .before .first .ensures), sym (c .before .rest .ensures), sym (c .before .before .before .is-label .ensures), c .before .before .if1 .taken, sym (c .cut-of .ensures))
+returns c =
+    let at-is-label = c .before .before .before in
+    let at-first = at-is-label .before in
+    simp (
+      sym (at-first .first .ensures),
+      sym (c .before .rest .ensures),
+      sym (at-is-label .is-label .ensures),
+      c .before .before .if1 .taken,
+      sym (c .cut-of .ensures),
+    )
 
 returns-2 : tie.Need-returns-2
 unfolding cut-in

@@ -23,7 +23,10 @@ same-requires-2 c κs = search needs
 
 returns-2 : tie.Need-returns-2
 unfolding is-cause cause-in cause-name
-returns-2 c = simp (sym (c .before .before .before .before .same .ensures), c .before .before .before .if1 .left, sym (c .before .same2 .ensures), c .if2 .taken)
+returns-2 c =
+    let at-if1 = c .before .before .before in
+    let at-same = at-if1 .before in
+    simp (sym (at-same .same .ensures), at-if1 .if1 .left, sym (c .before .same2 .ensures), c .if2 .taken)
 
 slice-aggregate-same-3 : tie.Need-slice-aggregate-same-3
 slice-aggregate-same-3 c = search needs
@@ -33,7 +36,11 @@ same-requires-3 c κs = search needs
 
 returns-3 : tie.Need-returns-3
 unfolding is-cause cause-in cause-name
-returns-3 c = simp (sym (c .before .before .before .before .before .before .same .ensures), c .before .before .before .before .before .if1 .left, sym (c .before .before .before .same2 .ensures), c .before .before .if2 .left, sym (c .same3 .ensures))
+returns-3 c =
+    let at-same2 = c .before .before .before in
+    let at-if1 = at-same2 .before .before in
+    let at-same = at-if1 .before in
+    simp (sym (at-same .same .ensures), at-if1 .if1 .left, sym (at-same2 .same2 .ensures), c .before .before .if2 .left, sym (c .same3 .ensures))
 
 pub is-cause-spec : {M : Type 1} → statement M
 is-cause-spec =

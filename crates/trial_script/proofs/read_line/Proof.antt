@@ -15,7 +15,9 @@ same-requires c κs = search needs
 
 returns : tie.Need-returns
 unfolding line
-returns c = exactly (now (c .before .before .before .before .args .s)) _ (simp (sym (c .before .same .ensures), c .if1 .taken))
+returns c =
+    let at-start = c .before .before .before .before in
+    exactly (now (at-start .args .s)) _ (simp (sym (c .before .same .ensures), c .if1 .taken))
 
 first-requires : tie.Need-first-requires
 first-requires c κs = search needs
@@ -35,8 +37,21 @@ start-in-requires c κs = search needs
 returns-2 : tie.Need-returns-2
 unfolding line
 returns-2 c =
-    exactly (now (c .before .before .before .before .before .before .before .before .before .before .args .s)) _
-    (simp (sym (c .before .before .before .before .before .before .before .same .ensures), c .before .before .before .before .before .before .if1 .left, sym (c .before .before .before .before .before .first .ensures), sym (c .before .before .before .same2 .ensures), c .before .before .if2 .taken, sym (c .before .rest .ensures), sym (c .start-in .ensures)))
+    let at-same2 = c .before .before .before in
+    let at-first = at-same2 .before .before in
+    let at-if1 = at-first .before in
+    let at-same = at-if1 .before in
+    let at-start = at-same .before .before .before in
+    exactly (now (at-start .args .s)) _
+    (simp (
+      sym (at-same .same .ensures),
+      at-if1 .if1 .left,
+      sym (at-first .first .ensures),
+      sym (at-same2 .same2 .ensures),
+      c .before .before .if2 .taken,
+      sym (c .before .rest .ensures),
+      sym (c .start-in .ensures),
+    ))
 
 slice-aggregate-same-3 : tie.Need-slice-aggregate-same-3
 slice-aggregate-same-3 c = search needs
@@ -53,14 +68,21 @@ judge-in-requires c κs = search needs
 returns-3 : tie.Need-returns-3
 unfolding line
 returns-3 c =
-    exactly (now (c .before .before .before .before .before .before .before .before .before .before .before .before .before .args .s)) _
+    let at-same3 = c .before .before .before in
+    let at-if2 = at-same3 .before .before in
+    let at-same2 = at-if2 .before in
+    let at-first = at-same2 .before .before in
+    let at-if1 = at-first .before in
+    let at-same = at-if1 .before in
+    let at-start = at-same .before .before .before in
+    exactly (now (at-start .args .s)) _
     (simp (
-      sym (c .before .before .before .before .before .before .before .before .before .before .same .ensures),
-      c .before .before .before .before .before .before .before .before .before .if1 .left,
-      sym (c .before .before .before .before .before .before .before .before .first .ensures),
-      sym (c .before .before .before .before .before .before .same2 .ensures),
-      c .before .before .before .before .before .if2 .left,
-      sym (c .before .before .before .same3 .ensures),
+      sym (at-same .same .ensures),
+      at-if1 .if1 .left,
+      sym (at-first .first .ensures),
+      sym (at-same2 .same2 .ensures),
+      at-if2 .if2 .left,
+      sym (at-same3 .same3 .ensures),
       c .before .before .if3 .taken,
       sym (c .before .rest2 .ensures),
       sym (c .judge-in .ensures),
@@ -81,16 +103,25 @@ cut-in-requires c κs = search needs
 returns-4 : tie.Need-returns-4
 unfolding line
 returns-4 c =
-    exactly (now (c .before .before .before .before .before .before .before .before .before .before .before .before .before .before .before .before .args .s)) _
+    let at-same4 = c .before .before .before in
+    let at-if3 = at-same4 .before .before in
+    let at-same3 = at-if3 .before in
+    let at-if2 = at-same3 .before .before in
+    let at-same2 = at-if2 .before in
+    let at-first = at-same2 .before .before in
+    let at-if1 = at-first .before in
+    let at-same = at-if1 .before in
+    let at-start = at-same .before .before .before in
+    exactly (now (at-start .args .s)) _
     (simp (
-      sym (c .before .before .before .before .before .before .before .before .before .before .before .before .before .same .ensures),
-      c .before .before .before .before .before .before .before .before .before .before .before .before .if1 .left,
-      sym (c .before .before .before .before .before .before .before .before .before .before .before .first .ensures),
-      sym (c .before .before .before .before .before .before .before .before .before .same2 .ensures),
-      c .before .before .before .before .before .before .before .before .if2 .left,
-      sym (c .before .before .before .before .before .before .same3 .ensures),
-      c .before .before .before .before .before .if3 .left,
-      sym (c .before .before .before .same4 .ensures),
+      sym (at-same .same .ensures),
+      at-if1 .if1 .left,
+      sym (at-first .first .ensures),
+      sym (at-same2 .same2 .ensures),
+      at-if2 .if2 .left,
+      sym (at-same3 .same3 .ensures),
+      at-if3 .if3 .left,
+      sym (at-same4 .same4 .ensures),
       c .before .before .if4 .taken,
       sym (c .before .rest3 .ensures),
       sym (c .cut-in .ensures),
@@ -99,15 +130,23 @@ returns-4 c =
 returns-5 : tie.Need-returns-5
 unfolding line
 returns-5 c =
-    exactly (now (c .before .before .before .before .before .before .before .before .before .before .before .before .before .before .args .s)) _
+    let at-if3 = c .before .before .before in
+    let at-same3 = at-if3 .before in
+    let at-if2 = at-same3 .before .before in
+    let at-same2 = at-if2 .before in
+    let at-first = at-same2 .before .before in
+    let at-if1 = at-first .before in
+    let at-same = at-if1 .before in
+    let at-start = at-same .before .before .before in
+    exactly (now (at-start .args .s)) _
     (simp (
-      sym (c .before .before .before .before .before .before .before .before .before .before .before .same .ensures),
-      c .before .before .before .before .before .before .before .before .before .before .if1 .left,
-      sym (c .before .before .before .before .before .before .before .before .before .first .ensures),
-      sym (c .before .before .before .before .before .before .before .same2 .ensures),
-      c .before .before .before .before .before .before .if2 .left,
-      sym (c .before .before .before .before .same3 .ensures),
-      c .before .before .before .if3 .left,
+      sym (at-same .same .ensures),
+      at-if1 .if1 .left,
+      sym (at-first .first .ensures),
+      sym (at-same2 .same2 .ensures),
+      at-if2 .if2 .left,
+      sym (at-same3 .same3 .ensures),
+      at-if3 .if3 .left,
       sym (c .before .same4 .ensures),
       c .if4 .left,
     ))

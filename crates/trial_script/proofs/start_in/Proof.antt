@@ -16,7 +16,10 @@ amounts-at-requires-2 c κs = search needs
 
 returns : tie.Need-returns
 unfolding start-in
-returns c = simp (sym (c .before .before .before .are-numbers .ensures), c .before .before .if1 .taken, sym (c .before .amounts-at .ensures), sym (c .amounts-at2 .ensures))
+returns c =
+    let at-are-numbers = c .before .before .before in
+    simp
+    (sym (at-are-numbers .are-numbers .ensures), c .before .before .if1 .taken, sym (c .before .amounts-at .ensures), sym (c .amounts-at2 .ensures))
 
 returns-2 : tie.Need-returns-2
 unfolding start-in

@@ -33,9 +33,19 @@ weighed-requires c κs = search needs
 
 returns : tie.Need-returns
 returns c =
-    let x = c .before .before .before .before .before .before .before .before .before .before .args in
-    judged-is (x .buckets) (c .before .before .before .before .before .before .before .before .before .refilled-all .result) (x .used) (c .before .before .before .before .before .credited .result) (c .before .before .before .before .fade-to .result) (c .before .before .before .tried .result) (x .now) (x .elapsed) (c .before .before .before .before .before .before .before .since .result) (x .cost) (x .fill) (x .level) (x .rank) (c .before .before .before .before .before .before .before .before .is-fresh .result) (c .before .before .before .before .before .before .weight-of .result) (c .before .want .result) (c .weighed .result)
-    (c .weighed .ensures) (c .before .before .before .before .before .before .before .before .before .refilled-all .ensures) (c .before .want .ensures) (c .before .before .before .tried .ensures) (c .before .before .before .before .fade-to .ensures) (c .before .before .before .before .before .credited .ensures) (c .before .before .before .before .before .before .weight-of .ensures) (c .before .before .before .before .before .before .before .before .is-fresh .ensures) (c .before .before .before .before .before .before .before .since .ensures)
+    let at-tried = c .before .before .before in
+    let at-fade-to = at-tried .before in
+    let at-credited = at-fade-to .before in
+    let at-weight-of = at-credited .before in
+    let at-since = at-weight-of .before in
+    let at-is-fresh = at-since .before in
+    let at-refilled-all = at-is-fresh .before in
+    let x = at-refilled-all .before .args in
+    judged-is (x .buckets) (at-refilled-all .refilled-all .result) (x .used) (at-credited .credited .result) (at-fade-to .fade-to .result)
+    (at-tried .tried .result) (x .clock) (x .elapsed) (at-since .since .result) (x .cost) (x .fill) (x .level) (x .rank) (at-is-fresh .is-fresh .result)
+    (at-weight-of .weight-of .result) (c .before .want .result) (c .weighed .result) (c .weighed .ensures) (at-refilled-all .refilled-all .ensures)
+    (c .before .want .ensures) (at-tried .tried .ensures) (at-fade-to .fade-to .ensures) (at-credited .credited .ensures)
+    (at-weight-of .weight-of .ensures) (at-is-fresh .is-fresh .ensures) (at-since .since .ensures)
 
 pub judged-spec : {M : Type 1} → statement M
 judged-spec =

@@ -23,7 +23,15 @@ settled-requires : tie.Need-settled-requires
 settled-requires c κs = search needs
 
 returns : tie.Need-returns
-returns c = let x = c .before .before .before .before .before .before .before .args in weighed-is (x .wants) (x .rank) (c .before .before .before .mark-of .result) (x .buckets) (x .used) (x .cost) (c .before .before .before .before .before .covers .result) (c .before .before .before .before .suffice .result) (c .before .before .leaves .result) (c .before .decided .result) (c .settled .result) (c .settled .ensures) (c .before .decided .ensures) (c .before .before .leaves .ensures) (c .before .before .before .mark-of .ensures) (c .before .before .before .before .suffice .ensures) (c .before .before .before .before .before .covers .ensures)
+returns c =
+    let at-mark-of = c .before .before .before in
+    let at-suffice = at-mark-of .before in
+    let at-covers = at-suffice .before in
+    let x = at-covers .before .before .args in
+    weighed-is (x .wants) (x .rank) (at-mark-of .mark-of .result) (x .buckets) (x .used) (x .cost) (at-covers .covers .result)
+    (at-suffice .suffice .result) (c .before .before .leaves .result) (c .before .decided .result) (c .settled .result) (c .settled .ensures)
+    (c .before .decided .ensures) (c .before .before .leaves .ensures) (at-mark-of .mark-of .ensures) (at-suffice .suffice .ensures)
+    (at-covers .covers .ensures)
 
 pub weighed-spec : {M : Type 1} → statement M
 weighed-spec =

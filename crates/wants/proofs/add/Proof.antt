@@ -60,7 +60,9 @@ index-2-sums c = search needs
 
 returns : tie.Need-returns
 unfolding added one-more plus
-returns c = simp (c .before .before .before .bucket-of .ensures .0, c .before .wrapping-add-u32 .ensures)
+returns c =
+    let at-bucket-of = c .before .before .before in
+    simp (at-bucket-of .bucket-of .ensures .0, c .before .wrapping-add-u32 .ensures)
 
 pub add-spec : {M : Type 1} → statement M
 add-spec =

@@ -1,4 +1,4 @@
--- `wants::counted` meets its contract: the whole whole summed so far is, as a double, the sum of the buckets passed. Assumes nothing.
+-- `wants::counted` meets its contract: the whole number summed so far is, as a double, the sum of the buckets passed. Assumes nothing.
 use Rattle.flow.specs.Flow.{dims}
 use Rattle.wants.proofs.Steps.{counted-none}
 use Rattle.wants.proofs.Whole.{number-zero, sum-next}
@@ -47,7 +47,9 @@ loop-less : tie.Need-loop-less Inv-loop μ-loop
 loop-less c = search needs
 
 loop-again : tie.Need-loop-again Inv-loop μ-loop
-loop-again c = (search needs, search needs, search needs, sum-next _ _ _ _ (c .before .before .before .loop .inv .3) (c .wide .ensures .0) (omega arith))
+loop-again c =
+    let at-loop = c .before .before .before in
+    (search needs, search needs, search needs, sum-next _ _ _ _ (at-loop .loop .inv .3) (c .wide .ensures .0) (omega arith))
 
 whole-requires : tie.Need-whole-requires Inv-loop μ-loop
 whole-requires c κs = search needs

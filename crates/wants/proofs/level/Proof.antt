@@ -44,7 +44,9 @@ loop-less : tie.Need-loop-less Inv-loop μ-loop
 loop-less c = search needs
 
 loop-again : tie.Need-loop-again Inv-loop μ-loop
-loop-again c = (search needs, search needs, walked-next _ _ _ _ (c .before .before .before .loop .inv .2) ∙ empty _ _ _ _ (c .if1 .taken))
+loop-again c =
+    let at-loop = c .before .before .before in
+    (search needs, search needs, walked-next _ _ _ _ (at-loop .loop .inv .2) ∙ empty _ _ _ _ (c .if1 .taken))
 
 number-requires : tie.Need-number-requires Inv-loop μ-loop
 number-requires c κs = search needs
@@ -68,18 +70,23 @@ loop-less-2 : tie.Need-loop-less-2 Inv-loop μ-loop
 loop-less-2 c = search needs
 
 loop-again-2 : tie.Need-loop-again-2 Inv-loop μ-loop
-loop-again-2 c = (
-  search needs,
-  search needs,
-  walked-next _ _ _ _ (c .before .before .before .before .before .before .loop .inv .2)
-      ∙ fitting _ _ _ _ _ (c .before .before .before .if1 .left) (c .before .before .number .ensures) (c .if2 .taken),
-)
+loop-again-2 c =
+    let at-if1 = c .before .before .before in
+    let at-loop = at-if1 .before .before .before in (
+      search needs,
+      search needs,
+      walked-next _ _ _ _ (at-loop .loop .inv .2)
+          ∙ fitting _ _ _ _ _ (at-if1 .if1 .left) (c .before .before .number .ensures) (c .if2 .taken),
+    )
 
 returns : tie.Need-returns Inv-loop μ-loop
 unfolding level
-returns c = found-level _ _ _ _ (search needs) (
-    walked-next _ _ _ _ (c .before .before .before .before .before .before .loop .inv .2)
-    ∙ stopping _ _ _ _ _ (c .before .before .before .if1 .left) (c .before .before .number .ensures) (c .if2 .left))
+returns c =
+    let at-if1 = c .before .before .before in
+    let at-loop = at-if1 .before .before .before in
+    found-level _ _ _ _ (search needs) (
+    walked-next _ _ _ _ (at-loop .loop .inv .2)
+    ∙ stopping _ _ _ _ _ (at-if1 .if1 .left) (c .before .before .number .ensures) (c .if2 .left))
 
 infinity-requires : tie.Need-infinity-requires Inv-loop μ-loop
 infinity-requires c κs = search needs

@@ -72,4 +72,8 @@ returns : tie.Need-returns
 returns c = search needs
 
 pub lent-spec : {M : Type 1} → statement M
-lent-spec = tie.close (tie.spec digit-requires digit-requires-2 digit-requires-3 digit-requires-4 value-up-to-requires slice-relend-prefix-answered slice-aggregate-answered slice-relend-prefix-answered-2 slice-aggregate-answered-2 slice-relend-prefix-answered-3 slice-aggregate-answered-3 slice-relend-prefix-answered-4 slice-aggregate-answered-4 slice-relend-prefix-answered-5 slice-aggregate-answered-5 answered-requires same-length same-length-2 same-length-3 same-length-4 same-length-5 returns)
+lent-spec =
+    tie.close (tie.spec digit-requires digit-requires-2 digit-requires-3 digit-requires-4 value-up-to-requires slice-relend-prefix-answered
+    slice-aggregate-answered slice-relend-prefix-answered-2 slice-aggregate-answered-2 slice-relend-prefix-answered-3 slice-aggregate-answered-3
+    slice-relend-prefix-answered-4 slice-aggregate-answered-4 slice-relend-prefix-answered-5 slice-aggregate-answered-5 answered-requires
+    same-length same-length-2 same-length-3 same-length-4 same-length-5 returns)

@@ -63,4 +63,6 @@ returns-3 : tie.Need-returns-3 Inv-loop μ-loop
 returns-3 c = search needs
 
 pub histogram-spec : {M : Type 1} → statement M
-histogram-spec = tie.close (tie.spec Inv-loop μ-loop loop-holds mul-numbers index-1-numbers mul-numbers-2 index-1-numbers-2 numbers-requires returns mul-floats index-1-floats mul-floats-2 index-1-floats-2 floats-requires returns-2 add-d loop-less loop-again returns-3)
+histogram-spec =
+    tie.close (tie.spec Inv-loop μ-loop loop-holds mul-numbers index-1-numbers mul-numbers-2 index-1-numbers-2 numbers-requires returns mul-floats
+    index-1-floats mul-floats-2 index-1-floats-2 floats-requires returns-2 add-d loop-less loop-again returns-3)

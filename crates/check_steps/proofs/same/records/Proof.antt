@@ -65,4 +65,6 @@ returns-3 : tie.Need-returns-3 Inv-loop μ-loop
 returns-3 c = search needs
 
 pub records-spec : {M : Type 1} → statement M
-records-spec = tie.close (tie.spec Inv-loop μ-loop loop-holds mul-words index-1-words mul-words-2 index-1-words-2 words-requires returns mul-floats index-1-floats mul-floats-2 index-1-floats-2 floats-requires returns-2 add-i loop-less loop-again tagged-requires returns-3)
+records-spec =
+    tie.close (tie.spec Inv-loop μ-loop loop-holds mul-words index-1-words mul-words-2 index-1-words-2 words-requires returns mul-floats
+    index-1-floats mul-floats-2 index-1-floats-2 floats-requires returns-2 add-i loop-less loop-again tagged-requires returns-3)

@@ -1,4 +1,4 @@
--- `store::totals::below` meets its contract. Assumes nothing.
+-- `cut_sources::totals::below` meets its contract. Assumes nothing.
 use Prim.Native.Nat.{_≤_, _-_}
 use borrow.Author.Needs.{needs}
 use lib.ListN.{length}
@@ -32,7 +32,19 @@ loop-less : tie.Need-loop-less Inv-loop μ-loop
 loop-less c = search needs
 
 loop-again : tie.Need-loop-again Inv-loop μ-loop
-loop-again c = (search needs, omega (arith, c .one-if .ensures .1), search needs, simp (below-next (c .before .before .before .before .args .counted .now) (c .before .before .before .before .args .x) (c .before .before .before .loop .i) (omega arith), c .one-if .ensures .0, c .before .total-at .ensures, sym (c .before .before .before .loop .inv .3)))
+loop-again c =
+    let at-loop = c .before .before .before in
+    let at-start = at-loop .before in (
+      search needs,
+      omega (arith, c .one-if .ensures .1),
+      search needs,
+      simp (
+        below-next (at-start .args .counted .now) (at-start .args .x) (at-loop .loop .i) (omega arith),
+        c .one-if .ensures .0,
+        c .before .total-at .ensures,
+        sym (at-loop .loop .inv .3),
+      ),
+    )
 
 returns : tie.Need-returns Inv-loop μ-loop
 returns c = let e : c .before .loop .i ≡ c .before .before .args .n = omega arith in simp (c .before .loop .inv .3, e)

@@ -1,4 +1,4 @@
--- `store::totals::keep_from` meets its contract. Assumes nothing.
+-- `cut_sources::totals::keep_from` meets its contract. Assumes nothing.
 use Prim.Native.Nat.{_≤_, _<_, _-_, _/_}
 use borrow.Author.Needs.{needs}
 use lib.ListN.{length}
@@ -23,7 +23,17 @@ highest-requires : tie.Need-highest-requires Inv-loop μ-loop
 highest-requires c κs = search needs
 
 loop-holds : tie.Need-loop-holds Inv-loop μ-loop
-loop-holds c = (search needs, search needs, search needs, omega (arith, c .highest .ensures, keep-from-highest (totals (c .before .before .args .counted .now) (c .before .before .args .n)) (omega (arith, length-totals (c .before .before .args .counted .now) (c .before .before .args .n) (omega arith)))))
+loop-holds c =
+    let args = c .before .before .args in (
+      search needs,
+      search needs,
+      search needs,
+      omega (
+        arith,
+        c .highest .ensures,
+        keep-from-highest (totals (args .counted .now) (args .n)) (omega (arith, length-totals (args .counted .now) (args .n) (omega arith))),
+      ),
+    )
 
 sub-tried : tie.Need-sub-tried Inv-loop μ-loop
 sub-tried c = search needs
@@ -38,7 +48,14 @@ loop-less : tie.Need-loop-less Inv-loop μ-loop
 loop-less c = omega arith
 
 loop-again : tie.Need-loop-again Inv-loop μ-loop
-loop-again c = (search needs, search needs, keep-from-least (totals (c .before .before .before .before .before .before .args .counted .now) (c .before .before .before .before .before .before .args .n)) (omega (arith, length-totals (c .before .before .before .before .before .before .args .counted .now) (c .before .before .before .before .before .before .args .n) (omega arith))) _ (omega (arith, length-totals (c .before .before .before .before .before .before .args .counted .now) (c .before .before .before .before .before .before .args .n) (omega arith), c .before .below .ensures)), search needs)
+loop-again c =
+    let args = c .before .before .before .before .before .before .args in (
+      search needs,
+      search needs,
+      keep-from-least (totals (args .counted .now) (args .n)) (omega (arith, length-totals (args .counted .now) (args .n) (omega arith))) _
+          (omega (arith, length-totals (args .counted .now) (args .n) (omega arith), c .before .below .ensures)),
+      search needs,
+    )
 
 sub-high : tie.Need-sub-high Inv-loop μ-loop
 sub-high c = omega arith
@@ -47,7 +64,19 @@ loop-less-2 : tie.Need-loop-less-2 Inv-loop μ-loop
 loop-less-2 c = omega arith
 
 loop-again-2 : tie.Need-loop-again-2 Inv-loop μ-loop
-loop-again-2 c = (search needs, search needs, search needs, omega (arith, keep-from-most (totals (c .before .before .before .before .before .before .args .counted .now) (c .before .before .before .before .before .before .args .n)) (omega (arith, length-totals (c .before .before .before .before .before .before .args .counted .now) (c .before .before .before .before .before .before .args .n) (omega arith))) (c .before .before .before .loop .high - (c .before .before .before .loop .high - c .before .before .before .loop .low) / 2) (omega (arith, length-totals (c .before .before .before .before .before .before .args .counted .now) (c .before .before .before .before .before .before .args .n) (omega arith), c .before .below .ensures))))
+loop-again-2 c =
+    let at-loop = c .before .before .before in
+    let args = at-loop .before .before .before .args in (
+      search needs,
+      search needs,
+      search needs,
+      omega (
+        arith,
+        keep-from-most (totals (args .counted .now) (args .n)) (omega (arith, length-totals (args .counted .now) (args .n) (omega arith)))
+            (at-loop .loop .high - (at-loop .loop .high - at-loop .loop .low) / 2)
+            (omega (arith, length-totals (args .counted .now) (args .n) (omega arith), c .before .below .ensures)),
+      ),
+    )
 
 returns-2 : tie.Need-returns-2 Inv-loop μ-loop
 returns-2 c = omega arith

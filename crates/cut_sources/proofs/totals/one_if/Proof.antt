@@ -1,4 +1,4 @@
--- `store::totals::one_if` meets its contract. Assumes nothing.
+-- `cut_sources::totals::one_if` meets its contract. Assumes nothing.
 use borrow.Author.Needs.{needs}
 use Rattle.cut_sources.proofs.totals.one_if.Statement.{statement}
 use Rattle.cut_sources.proofs.totals.one_if.Tie as tie

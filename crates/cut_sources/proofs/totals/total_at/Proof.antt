@@ -1,4 +1,4 @@
--- `store::totals::total_at` meets its contract. Assumes nothing.
+-- `cut_sources::totals::total_at` meets its contract. Assumes nothing.
 use native.Mathlib.Nat.{mod-add-mod}
 use borrow.Author.Needs.{needs}
 use Rattle.cut_sources.specs.Counted.{total-at, total}

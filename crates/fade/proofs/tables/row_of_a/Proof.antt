@@ -804,4 +804,21 @@ unfolding rows
 returns-200 c = last (c .before .args .i) (c .before .pre) (c .match .rest)
 
 pub row-of-a-spec : {M : Type 1} → statement M
-row-of-a-spec = tie.close (tie.spec returns returns-2 returns-3 returns-4 returns-5 returns-6 returns-7 returns-8 returns-9 returns-10 returns-11 returns-12 returns-13 returns-14 returns-15 returns-16 returns-17 returns-18 returns-19 returns-20 returns-21 returns-22 returns-23 returns-24 returns-25 returns-26 returns-27 returns-28 returns-29 returns-30 returns-31 returns-32 returns-33 returns-34 returns-35 returns-36 returns-37 returns-38 returns-39 returns-40 returns-41 returns-42 returns-43 returns-44 returns-45 returns-46 returns-47 returns-48 returns-49 returns-50 returns-51 returns-52 returns-53 returns-54 returns-55 returns-56 returns-57 returns-58 returns-59 returns-60 returns-61 returns-62 returns-63 returns-64 returns-65 returns-66 returns-67 returns-68 returns-69 returns-70 returns-71 returns-72 returns-73 returns-74 returns-75 returns-76 returns-77 returns-78 returns-79 returns-80 returns-81 returns-82 returns-83 returns-84 returns-85 returns-86 returns-87 returns-88 returns-89 returns-90 returns-91 returns-92 returns-93 returns-94 returns-95 returns-96 returns-97 returns-98 returns-99 returns-100 returns-101 returns-102 returns-103 returns-104 returns-105 returns-106 returns-107 returns-108 returns-109 returns-110 returns-111 returns-112 returns-113 returns-114 returns-115 returns-116 returns-117 returns-118 returns-119 returns-120 returns-121 returns-122 returns-123 returns-124 returns-125 returns-126 returns-127 returns-128 returns-129 returns-130 returns-131 returns-132 returns-133 returns-134 returns-135 returns-136 returns-137 returns-138 returns-139 returns-140 returns-141 returns-142 returns-143 returns-144 returns-145 returns-146 returns-147 returns-148 returns-149 returns-150 returns-151 returns-152 returns-153 returns-154 returns-155 returns-156 returns-157 returns-158 returns-159 returns-160 returns-161 returns-162 returns-163 returns-164 returns-165 returns-166 returns-167 returns-168 returns-169 returns-170 returns-171 returns-172 returns-173 returns-174 returns-175 returns-176 returns-177 returns-178 returns-179 returns-180 returns-181 returns-182 returns-183 returns-184 returns-185 returns-186 returns-187 returns-188 returns-189 returns-190 returns-191 returns-192 returns-193 returns-194 returns-195 returns-196 returns-197 returns-198 returns-199 returns-200)
+row-of-a-spec =
+    tie.close (tie.spec returns returns-2 returns-3 returns-4 returns-5 returns-6 returns-7 returns-8 returns-9 returns-10 returns-11 returns-12
+    returns-13 returns-14 returns-15 returns-16 returns-17 returns-18 returns-19 returns-20 returns-21 returns-22 returns-23 returns-24 returns-25
+    returns-26 returns-27 returns-28 returns-29 returns-30 returns-31 returns-32 returns-33 returns-34 returns-35 returns-36 returns-37 returns-38
+    returns-39 returns-40 returns-41 returns-42 returns-43 returns-44 returns-45 returns-46 returns-47 returns-48 returns-49 returns-50 returns-51
+    returns-52 returns-53 returns-54 returns-55 returns-56 returns-57 returns-58 returns-59 returns-60 returns-61 returns-62 returns-63 returns-64
+    returns-65 returns-66 returns-67 returns-68 returns-69 returns-70 returns-71 returns-72 returns-73 returns-74 returns-75 returns-76 returns-77
+    returns-78 returns-79 returns-80 returns-81 returns-82 returns-83 returns-84 returns-85 returns-86 returns-87 returns-88 returns-89 returns-90
+    returns-91 returns-92 returns-93 returns-94 returns-95 returns-96 returns-97 returns-98 returns-99 returns-100 returns-101 returns-102
+    returns-103 returns-104 returns-105 returns-106 returns-107 returns-108 returns-109 returns-110 returns-111 returns-112 returns-113 returns-114
+    returns-115 returns-116 returns-117 returns-118 returns-119 returns-120 returns-121 returns-122 returns-123 returns-124 returns-125 returns-126
+    returns-127 returns-128 returns-129 returns-130 returns-131 returns-132 returns-133 returns-134 returns-135 returns-136 returns-137 returns-138
+    returns-139 returns-140 returns-141 returns-142 returns-143 returns-144 returns-145 returns-146 returns-147 returns-148 returns-149 returns-150
+    returns-151 returns-152 returns-153 returns-154 returns-155 returns-156 returns-157 returns-158 returns-159 returns-160 returns-161 returns-162
+    returns-163 returns-164 returns-165 returns-166 returns-167 returns-168 returns-169 returns-170 returns-171 returns-172 returns-173 returns-174
+    returns-175 returns-176 returns-177 returns-178 returns-179 returns-180 returns-181 returns-182 returns-183 returns-184 returns-185 returns-186
+    returns-187 returns-188 returns-189 returns-190 returns-191 returns-192 returns-193 returns-194 returns-195 returns-196 returns-197 returns-198
+    returns-199 returns-200)

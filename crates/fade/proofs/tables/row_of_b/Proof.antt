@@ -68,4 +68,6 @@ unfolding rows
 returns-16 c = last (c .before .args .i) (c .before .pre) (c .match .rest)
 
 pub row-of-b-spec : {M : Type 1} → statement M
-row-of-b-spec = tie.close (tie.spec returns returns-2 returns-3 returns-4 returns-5 returns-6 returns-7 returns-8 returns-9 returns-10 returns-11 returns-12 returns-13 returns-14 returns-15 returns-16)
+row-of-b-spec =
+    tie.close (tie.spec returns returns-2 returns-3 returns-4 returns-5 returns-6 returns-7 returns-8 returns-9 returns-10 returns-11 returns-12
+    returns-13 returns-14 returns-15 returns-16)

@@ -49,7 +49,11 @@ later-requires : tie.Need-later-requires Inv-loop μ-loop
 later-requires c κs = search needs
 
 returns : tie.Need-returns Inv-loop μ-loop
-returns c = let e : c .before .before .loop .d ≡ dims = omega arith in simp (c .later .ensures, c .before .before .loop .inv .1, e, c .before .before .before .before .fade .ensures, c .before .before .before .before .before .since .ensures)
+returns c =
+    let at-fade = c .before .before .before .before in
+    let at-since = at-fade .before in
+    let e : c .before .before .loop .d ≡ dims = omega arith in
+    simp (c .later .ensures, c .before .before .loop .inv .1, e, at-fade .fade .ensures, at-since .since .ensures)
 
 pub fade-to-spec : {M : Type 1} → statement M
 fade-to-spec =

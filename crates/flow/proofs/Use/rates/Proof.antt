@@ -48,7 +48,10 @@ loop-again c = (search needs, simp (upto-next, c .before .loop .inv .1))
 
 returns : tie.Need-returns Inv-loop μ-loop
 unfolding rates
-returns c = let e : c .before .loop .d ≡ dims = omega arith in simp (c .before .loop .inv .1, e, c .before .before .before .fade .ensures, c .before .before .before .before .since .ensures)
+returns c =
+    let at-fade = c .before .before .before in
+    let at-since = at-fade .before in
+    let e : c .before .loop .d ≡ dims = omega arith in simp (c .before .loop .inv .1, e, at-fade .fade .ensures, at-since .since .ensures)
 
 pub rates-spec : {M : Type 1} → statement M
 rates-spec =

@@ -38,7 +38,9 @@ returns : tie.Need-returns
 returns c = cc
 
 returns-2 : tie.Need-returns-2
-returns-2 c = cc (hash-group (c .before .before .before .before .unit2 .given .0 .0))
+returns-2 c =
+    let at-unit2 = c .before .before .before .before in
+    cc (hash-group (at-unit2 .unit2 .given .0 .0))
 
 returns-3 : tie.Need-returns-3
 returns-3 c = cc (hash-none)

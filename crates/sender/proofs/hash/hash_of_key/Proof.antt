@@ -22,7 +22,13 @@ feed-word-requires-4 : tie.Need-feed-word-requires-4
 feed-word-requires-4 c κs = search needs
 
 returns : tie.Need-returns
-returns c = c .feed-word4 .ensures ∙ simp (c .before .feed-word3 .ensures, c .before .before .feed-word2 .ensures, c .before .before .before .feed-word .ensures, c .before .before .before .before .fed .ensures) (sym (hash-key (c .before .before .before .before .before .args .key) ∙ feed-key _ (c .before .before .before .before .before .args .key)))
+returns c =
+    let at-feed-word = c .before .before .before in
+    let at-fed = at-feed-word .before in
+    let at-start = at-fed .before in
+    c .feed-word4 .ensures
+    ∙ simp (c .before .feed-word3 .ensures, c .before .before .feed-word2 .ensures, at-feed-word .feed-word .ensures, at-fed .fed .ensures)
+    (sym (hash-key (at-start .args .key) ∙ feed-key _ (at-start .args .key)))
 
 pub hash-of-key-spec : {M : Type 1} → statement M
 hash-of-key-spec =

@@ -17,7 +17,11 @@ returns-4 : tie.Need-returns-4
 returns-4 c = differ (λ (w : Words). w .d) _ _ (c .if4 .taken)
 
 returns-5 : tie.Need-returns-5
-returns-5 c = by-kind _ _ (c .before .before .before .before .before .before .before .before .before .before .before .if1 .left) (c .before .before .before .before .before .before .before .before .if2 .left) (c .before .before .before .before .before .if3 .left) (c .before .before .if4 .left)
+returns-5 c =
+    let at-if3 = c .before .before .before .before .before in
+    let at-if2 = at-if3 .before .before .before in
+    let at-if1 = at-if2 .before .before .before in
+    by-kind _ _ (at-if1 .if1 .left) (at-if2 .if2 .left) (at-if3 .if3 .left) (c .before .before .if4 .left)
 
 pub same-words-spec : {M : Type 1} → statement M
 same-words-spec = tie.close (tie.spec returns returns-2 returns-3 returns-4 returns-5)

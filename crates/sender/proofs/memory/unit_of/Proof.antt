@@ -25,19 +25,27 @@ cast-t10 c = search needs
 
 returns-4 : tie.Need-returns-4
 unfolding unit-of
-returns-4 c = simp (lt-ltb _ _ (c .if5 .taken), eq-eqb _ _ (c .before .if4 .taken), ne-eqb _ _ (c .before .before .if2 .left), ne-eqb _ _ (c .before .before .before .if1 .left))
+returns-4 c =
+    let at-if1 = c .before .before .before in
+    simp (lt-ltb _ _ (c .if5 .taken), eq-eqb _ _ (c .before .if4 .taken), ne-eqb _ _ (c .before .before .if2 .left), ne-eqb _ _ (at-if1 .if1 .left))
 
 returns-5 : tie.Need-returns-5
 unfolding unit-of
-returns-5 c = simp (le-ltb _ _ (c .if5 .left), eq-eqb _ _ (c .before .if4 .taken), ne-eqb _ _ (c .before .before .if2 .left), ne-eqb _ _ (c .before .before .before .if1 .left))
+returns-5 c =
+    let at-if1 = c .before .before .before in
+    simp (le-ltb _ _ (c .if5 .left), eq-eqb _ _ (c .before .if4 .taken), ne-eqb _ _ (c .before .before .if2 .left), ne-eqb _ _ (at-if1 .if1 .left))
 
 returns-6 : tie.Need-returns-6
 unfolding unit-of
-returns-6 c = simp (eq-eqb _ _ (c .if6 .taken), ne-eqb _ _ (c .before .if4 .left), ne-eqb _ _ (c .before .before .if2 .left), ne-eqb _ _ (c .before .before .before .if1 .left))
+returns-6 c =
+    let at-if1 = c .before .before .before in
+    simp (eq-eqb _ _ (c .if6 .taken), ne-eqb _ _ (c .before .if4 .left), ne-eqb _ _ (c .before .before .if2 .left), ne-eqb _ _ (at-if1 .if1 .left))
 
 returns-7 : tie.Need-returns-7
 unfolding unit-of
-returns-7 c = simp (ne-eqb _ _ (c .if6 .left), ne-eqb _ _ (c .before .if4 .left), ne-eqb _ _ (c .before .before .if2 .left), ne-eqb _ _ (c .before .before .before .if1 .left))
+returns-7 c =
+    let at-if1 = c .before .before .before in
+    simp (ne-eqb _ _ (c .if6 .left), ne-eqb _ _ (c .before .if4 .left), ne-eqb _ _ (c .before .before .if2 .left), ne-eqb _ _ (at-if1 .if1 .left))
 
 pub unit-of-spec : {M : Type 1} → statement M
 unit-of-spec =

@@ -46,28 +46,44 @@ same-length c = search needs
 
 returns : tie.Need-returns
 unfolding answer-text
-returns c = let a = c .before .before .before .before .before .before .before .before .args in c .before .before .put .ensures ∙ ap (λ (x : Answer). write (page (now (a .out)) (a .at)) (answer-text x)) (sym (c .before .before .before .before .before .enum-told .given .1))
+returns c =
+    let at-enum-told = c .before .before .before .before .before in
+    let a = at-enum-told .before .before .before .args in
+    c .before .before .put .ensures
+    ∙ ap (λ (x : Answer). write (page (now (a .out)) (a .at)) (answer-text x)) (sym (at-enum-told .enum-told .given .1))
 
 same-length-2 : tie.Need-same-length-2
 same-length-2 c = search needs
 
 returns-2 : tie.Need-returns-2
 unfolding answer-text
-returns-2 c = let a = c .before .before .before .before .before .before .before .before .args in c .before .before .put2 .ensures ∙ ap (λ (x : Answer). write (page (now (a .out)) (a .at)) (answer-text x)) (sym (c .before .before .before .before .before .enum-told2 .given .1))
+returns-2 c =
+    let at-enum-told2 = c .before .before .before .before .before in
+    let a = at-enum-told2 .before .before .before .args in
+    c .before .before .put2 .ensures
+    ∙ ap (λ (x : Answer). write (page (now (a .out)) (a .at)) (answer-text x)) (sym (at-enum-told2 .enum-told2 .given .1))
 
 same-length-3 : tie.Need-same-length-3
 same-length-3 c = search needs
 
 returns-3 : tie.Need-returns-3
 unfolding answer-text
-returns-3 c = let a = c .before .before .before .before .before .before .before .before .args in c .before .before .put3 .ensures ∙ ap (λ (x : Answer). write (page (now (a .out)) (a .at)) (answer-text x)) (sym (c .before .before .before .before .before .enum-told3 .given .1))
+returns-3 c =
+    let at-enum-told3 = c .before .before .before .before .before in
+    let a = at-enum-told3 .before .before .before .args in
+    c .before .before .put3 .ensures
+    ∙ ap (λ (x : Answer). write (page (now (a .out)) (a .at)) (answer-text x)) (sym (at-enum-told3 .enum-told3 .given .1))
 
 same-length-4 : tie.Need-same-length-4
 same-length-4 c = search needs
 
 returns-4 : tie.Need-returns-4
 unfolding answer-text
-returns-4 c = let a = c .before .before .before .before .before .before .before .before .args in c .before .before .put-refused .ensures ∙ ap (λ (x : Answer). write (page (now (a .out)) (a .at)) (answer-text x)) (sym (c .before .before .before .before .before .answer .given .1))
+returns-4 c =
+    let at-answer = c .before .before .before .before .before in
+    let a = at-answer .before .before .before .args in
+    c .before .before .put-refused .ensures
+    ∙ ap (λ (x : Answer). write (page (now (a .out)) (a .at)) (answer-text x)) (sym (at-answer .answer .given .1))
 
 pub put-answer-spec : {M : Type 1} → statement M
 put-answer-spec =

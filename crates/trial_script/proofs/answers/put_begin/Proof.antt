@@ -28,14 +28,22 @@ same-length c = search needs
 
 returns : tie.Need-returns
 unfolding begin-text
-returns c = let a = c .before .before .before .before .before .before .before .before .args in c .before .before .put .ensures ∙ ap (λ (x : Begin). write (page (now (a .out)) (a .at)) (begin-text x)) (sym (c .before .before .before .before .before .enum-told .given .1))
+returns c =
+    let at-enum-told = c .before .before .before .before .before in
+    let a = at-enum-told .before .before .before .args in
+    c .before .before .put .ensures
+    ∙ ap (λ (x : Begin). write (page (now (a .out)) (a .at)) (begin-text x)) (sym (at-enum-told .enum-told .given .1))
 
 same-length-2 : tie.Need-same-length-2
 same-length-2 c = search needs
 
 returns-2 : tie.Need-returns-2
 unfolding begin-text
-returns-2 c = let a = c .before .before .before .before .before .before .before .before .args in c .before .before .put-refused .ensures ∙ ap (λ (x : Begin). write (page (now (a .out)) (a .at)) (begin-text x)) (sym (c .before .before .before .before .before .answer .given .1))
+returns-2 c =
+    let at-answer = c .before .before .before .before .before in
+    let a = at-answer .before .before .before .args in
+    c .before .before .put-refused .ensures
+    ∙ ap (λ (x : Begin). write (page (now (a .out)) (a .at)) (begin-text x)) (sym (at-answer .answer .given .1))
 
 pub put-begin-spec : {M : Type 1} → statement M
 put-begin-spec =

@@ -22,7 +22,10 @@ same-length : tie.Need-same-length
 same-length c = search needs
 
 returns : tie.Need-returns
-returns c = let a = c .before .before .before .before .before .before .before .before .args in c .before .before .put .ensures ∙ ap (write (page (now (a .out)) (a .at))) (c .before .before .before .before .before .refused-text .ensures .1)
+returns c =
+    let at-refused-text = c .before .before .before .before .before in
+    let a = at-refused-text .before .before .before .args in
+    c .before .before .put .ensures ∙ ap (write (page (now (a .out)) (a .at))) (at-refused-text .refused-text .ensures .1)
 
 pub put-refused-spec : {M : Type 1} → statement M
 put-refused-spec =

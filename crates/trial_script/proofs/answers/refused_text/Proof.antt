@@ -29,10 +29,14 @@ put-requires-2 c κs = search needs
 
 returns : tie.Need-returns
 unfolding refused-text
-returns c = let a = c .before .before .before .before .before .before .before .before in
+returns c =
+    let at-put-decimal = c .before .before .before in
+    let at-put = at-put-decimal .before .before in
+    let at-put-arg = at-put .before .before in
+    let a = at-put-arg .before in
     three-front (114 ∷ 101 ∷ 102 ∷ 117 ∷ 115 ∷ 101 ∷ 100 ∷ 32 ∷ []) (decimal (a .args .n)) (10 ∷ []) (now (a .args .out)) _ _
-    (let len : length (now (a .args .out)) ≡ 29 = c .before .before .before .before .before .before .before .put-arg .given .0 .1 in omega (arith, decimal-short (a .args .n)))
-    (c .before .before .before .before .before .put .ensures) (c .before .before .before .put-decimal .ensures) (c .put2 .ensures)
+    (let len : length (now (a .args .out)) ≡ 29 = at-put-arg .put-arg .given .0 .1 in omega (arith, decimal-short (a .args .n)))
+    (at-put .put .ensures) (at-put-decimal .put-decimal .ensures) (c .put2 .ensures)
 
 pub refused-text-spec : {M : Type 1} → statement M
 refused-text-spec =

@@ -50,7 +50,9 @@ are-numbers-returns : (t : ℕ) → are-numbers-lts.Need-returns (
   are-numbers-below t,
   are-numbers.Post,
 ) (are-numbers-at t) are-numbers.Post
-are-numbers-returns t c = c .is-number .ensures ∙ are-none (now (c .before .before .before .args .s)) _ (c .before .if1 .taken)
+are-numbers-returns t c =
+    let at-start = c .before .before .before in
+    c .is-number .ensures ∙ are-none (now (at-start .args .s)) _ (c .before .if1 .taken)
 
 are-numbers-first-requires : (t : ℕ) → are-numbers-lts.Need-first-requires (
   is-number-reads.Asked,
@@ -98,7 +100,9 @@ are-numbers-sub-are-numbers : (t : ℕ) → are-numbers-lts.Need-sub-are-numbers
   are-numbers-below t,
   are-numbers.Post,
 ) (are-numbers-at t) are-numbers.Post
-are-numbers-sub-are-numbers t c = pos-of-ne-zero (c .before .before .before .before .if1 .left)
+are-numbers-sub-are-numbers t c =
+    let at-if1 = c .before .before .before .before in
+    pos-of-ne-zero (at-if1 .if1 .left)
 
 are-numbers-are-numbers-requires : (t : ℕ) → are-numbers-lts.Need-are-numbers-requires (
   is-number-reads.Asked,
@@ -110,7 +114,10 @@ are-numbers-are-numbers-requires : (t : ℕ) → are-numbers-lts.Need-are-number
   are-numbers-below t,
   are-numbers.Post,
 ) (are-numbers-at t) are-numbers.Post
-are-numbers-are-numbers-requires t c κs = (let p = pos-of-ne-zero (c .before .before .before .before .if1 .left) in omega (arith, c .before .before .before .before .before .before .pre .0), tt)
+are-numbers-are-numbers-requires t c κs =
+    let at-if1 = c .before .before .before .before in
+    let at-start = at-if1 .before .before in
+    (let p = pos-of-ne-zero (at-if1 .if1 .left) in omega (arith, at-start .pre .0), tt)
 
 are-numbers-returns-2 : (t : ℕ) → are-numbers-lts.Need-returns-2 (
   is-number-reads.Asked,
@@ -123,9 +130,13 @@ are-numbers-returns-2 : (t : ℕ) → are-numbers-lts.Need-returns-2 (
   are-numbers.Post,
 ) (are-numbers-at t) are-numbers.Post
 are-numbers-returns-2 t c =
-    c .are-numbers .ensures
-    ∙ ap (fields.are-numbers (c .before .before .before .before .before .before .before .args .more - 1)) (c .before .rest .ensures)
-    ∙ are-go (now (c .before .before .before .before .before .before .before .args .s)) _ (c .before .before .before .before .before .if1 .left) (ap fields.is-number (sym (c .before .before .before .before .first .ensures)) ∙ sym (c .before .before .before .is-number2 .ensures) ∙ c .before .before .if2 .taken)
+    let at-is-number2 = c .before .before .before in
+    let at-first = at-is-number2 .before in
+    let at-if1 = at-first .before in
+    let at-start = at-if1 .before .before in
+    c .are-numbers .ensures ∙ ap (fields.are-numbers (at-start .args .more - 1)) (c .before .rest .ensures)
+    ∙ are-go (now (at-start .args .s)) _ (at-if1 .if1 .left)
+    (ap fields.is-number (sym (at-first .first .ensures)) ∙ sym (at-is-number2 .is-number2 .ensures) ∙ c .before .before .if2 .taken)
 
 are-numbers-returns-3 : (t : ℕ) → are-numbers-lts.Need-returns-3 (
   is-number-reads.Asked,
@@ -137,7 +148,11 @@ are-numbers-returns-3 : (t : ℕ) → are-numbers-lts.Need-returns-3 (
   are-numbers-below t,
   are-numbers.Post,
 ) (are-numbers-at t) are-numbers.Post
-are-numbers-returns-3 t c = are-stop (now (c .before .before .before .before .before .args .s)) _ (c .before .before .before .if1 .left) (ap fields.is-number (sym (c .before .before .first .ensures)) ∙ sym (c .before .is-number2 .ensures) ∙ c .if2 .left)
+are-numbers-returns-3 t c =
+    let at-if1 = c .before .before .before in
+    let at-start = at-if1 .before .before in
+    are-stop (now (at-start .args .s)) _ (at-if1 .if1 .left)
+    (ap fields.is-number (sym (c .before .before .first .ensures)) ∙ sym (c .before .is-number2 .ensures) ∙ c .if2 .left)
 
 pub +are-numbers-spec : {M : Type 1} → statement M
 +are-numbers-spec = close μ-are-numbers λ t. are-numbers-lts.spec (

@@ -61,7 +61,9 @@ number-at-returns : (t : ℕ) → number-at-lts.Need-returns (
   number-at-below t,
   number-at.Post,
 ) (number-at-at t) number-at.Post
-number-at-returns t c = c .number-in .ensures ∙ ap fields.number-in (c .before .first .ensures) ∙ at-none (now (c .before .before .before .before .args .s)) _ (c .before .before .if1 .taken)
+number-at-returns t c =
+    let at-start = c .before .before .before .before in
+    c .number-in .ensures ∙ ap fields.number-in (c .before .first .ensures) ∙ at-none (now (at-start .args .s)) _ (c .before .before .if1 .taken)
 
 number-at-rest-requires : (t : ℕ) → number-at-lts.Need-rest-requires (
   first-reads.Asked,
@@ -97,7 +99,9 @@ number-at-number-at-requires : (t : ℕ) → number-at-lts.Need-number-at-requir
   number-at-below t,
   number-at.Post,
 ) (number-at-at t) number-at.Post
-number-at-number-at-requires t c κs = (let p = pos-of-ne-zero (c .before .if1 .left) in omega (arith, c .before .before .before .pre .0), tt)
+number-at-number-at-requires t c κs =
+    let at-start = c .before .before .before in
+    (let p = pos-of-ne-zero (c .before .if1 .left) in omega (arith, at-start .pre .0), tt)
 
 number-at-returns-2 : (t : ℕ) → number-at-lts.Need-returns-2 (
   first-reads.Asked,
@@ -109,7 +113,10 @@ number-at-returns-2 : (t : ℕ) → number-at-lts.Need-returns-2 (
   number-at-below t,
   number-at.Post,
 ) (number-at-at t) number-at.Post
-number-at-returns-2 t c = c .number-at .ensures ∙ ap (fields.number-at (c .before .before .before .before .args .k - 1)) (c .before .rest .ensures) ∙ at-more (now (c .before .before .before .before .args .s)) _ (c .before .before .if1 .left)
+number-at-returns-2 t c =
+    let at-start = c .before .before .before .before in
+    c .number-at .ensures ∙ ap (fields.number-at (at-start .args .k - 1)) (c .before .rest .ensures)
+    ∙ at-more (now (at-start .args .s)) _ (c .before .before .if1 .left)
 
 pub +number-at-spec : {M : Type 1} → statement M
 +number-at-spec = close μ-number-at λ t. number-at-lts.spec (

@@ -16,7 +16,9 @@ slice-aggregate-result c = search needs
 
 returns : tie.Need-returns
 unfolding first
-returns c = ap (λ (n : ℕ). take n (now (c .before .before .before .args .s))) (c .before .width .ensures .0)
+returns c =
+    let at-start = c .before .before .before in
+    ap (λ (n : ℕ). take n (now (at-start .args .s))) (c .before .width .ensures .0)
 
 pub first-spec : {M : Type 1} → statement M
 first-spec = tie.close (tie.spec width-requires slice-aggregate-result returns)

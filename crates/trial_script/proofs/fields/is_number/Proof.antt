@@ -22,7 +22,9 @@ same-requires c κs = search needs
 
 returns : tie.Need-returns
 unfolding is-number
-returns c = c .same .ensures ∙ simp (c .before .before .decimal-text .ensures .1, c .before .before .before .before .number-in .ensures)
+returns c =
+    let at-number-in = c .before .before .before .before in
+    c .same .ensures ∙ simp (c .before .before .decimal-text .ensures .1, at-number-in .number-in .ensures)
 
 pub is-number-spec : {M : Type 1} → statement M
 is-number-spec =

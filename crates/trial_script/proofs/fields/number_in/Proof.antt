@@ -33,14 +33,16 @@ loop-less c = omega arith
 
 loop-again : tie.Need-loop-again Inv-loop μ-loop
 loop-again c =
+    let at-start = c .before .before .before .before .before in
     let l = c .before .before .before .loop in
-    let s = now (c .before .before .before .before .before .args .s) in
+    let s = now (at-start .args .s) in
     (omega arith, l .inv .1 ∙ read-at s (l .i) (omega arith) (l .n) ∙ ap (λ (v : ℕ). read v (drop (l .i + 1) s)) (sym (c .grown .ensures)))
 
 returns : tie.Need-returns Inv-loop μ-loop
 returns c =
+    let at-start = c .before .before .before in
     let l = c .before .loop in
-    let s = now (c .before .before .before .args .s) in
+    let s = now (at-start .args .s) in
     sym (l .inv .1 ∙ read-end s (l .i) (l .n) (omega arith))
 
 pub number-in-spec : {M : Type 1} → statement M

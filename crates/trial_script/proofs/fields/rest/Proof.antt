@@ -23,7 +23,9 @@ part-result-end : tie.Need-part-result-end
 part-result-end c = search needs
 
 returns : tie.Need-returns
-returns c = tail (now (c .before .before .before .before .args .s)) _ ∙ rest-more (now (c .before .before .before .before .args .s)) _ (c .before .before .width .ensures .0)
+returns c =
+    let at-start = c .before .before .before .before in
+    tail (now (at-start .args .s)) _ ∙ rest-more (now (at-start .args .s)) _ (c .before .before .width .ensures .0)
 
 sub-result-2 : tie.Need-sub-result-2
 sub-result-2 c = search needs
@@ -35,7 +37,9 @@ part-result-end-2 : tie.Need-part-result-end-2
 part-result-end-2 c = search needs
 
 returns-2 : tie.Need-returns-2
-returns-2 c = tail (now (c .before .before .before .before .args .s)) _ ∙ rest-none (now (c .before .before .before .before .args .s)) _ (c .before .before .width .ensures .0) (omega arith)
+returns-2 c =
+    let at-start = c .before .before .before .before in
+    tail (now (at-start .args .s)) _ ∙ rest-none (now (at-start .args .s)) _ (c .before .before .width .ensures .0) (omega arith)
 
 pub rest-spec : {M : Type 1} → statement M
 rest-spec =

@@ -24,8 +24,9 @@ shared-slice-read-if1 c = omega arith
 
 returns : tie.Need-returns Inv-loop μ-loop
 returns c =
+    let at-start = c .before .before .before .before in
     let l = c .before .before .before .loop in
-    let s = now (c .before .before .before .before .args .s) in
+    let s = now (at-start .args .s) in
     let e = width-space s (l .i) (omega arith) (c .if1 .taken) in
     (omega (arith, e, l .inv .1), counted _ _ (omega arith))
 
@@ -37,8 +38,9 @@ loop-less c = omega arith
 
 loop-again : tie.Need-loop-again Inv-loop μ-loop
 loop-again c =
+    let at-start = c .before .before .before .before in
     let l = c .before .before .before .loop in
-    let s = now (c .before .before .before .before .args .s) in
+    let s = now (at-start .args .s) in
     let e = width-other s (l .i) (omega arith) (c .if1 .left) in
     (omega arith, omega (arith, e, l .inv .1))
 

@@ -27,11 +27,12 @@ add-result c = search needs
 
 returns : tie.Need-returns
 returns c =
+    let at-start = c .before .before .before in
     let is = c .before .before .at-least-one .ensures in (
       rw is (
           lower
-          (c .before .before .before .args .want)
-          (c .before .before .before .good .0 .1)
+          (at-start .args .want)
+          (at-start .good .0 .1)
           (c .sixteenth .result)
           (rw is at (c .before .if1 .taken))
           (rw is at (c .sixteenth .ensures))),

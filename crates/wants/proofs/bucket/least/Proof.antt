@@ -72,4 +72,6 @@ returns-17 : tie.Need-returns-17
 returns-17 c = past (c .before .args .j) (c .match .rest)
 
 pub least-spec : {M : Type 1} → statement M
-least-spec = tie.close (tie.spec returns returns-2 returns-3 returns-4 returns-5 returns-6 returns-7 returns-8 returns-9 returns-10 returns-11 returns-12 returns-13 returns-14 returns-15 returns-16 returns-17)
+least-spec =
+    tie.close (tie.spec returns returns-2 returns-3 returns-4 returns-5 returns-6 returns-7 returns-8 returns-9 returns-10 returns-11 returns-12
+    returns-13 returns-14 returns-15 returns-16 returns-17)

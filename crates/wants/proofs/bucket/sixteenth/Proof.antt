@@ -32,8 +32,10 @@ add-result-2 : tie.Need-add-result-2
 add-result-2 c = search needs
 
 returns : tie.Need-returns
-returns c = rw (c .one-if2 .ensures .0, c .before .before .one-if .ensures .0) (
-    sixteenth-is _ _ _ (search needs) (search needs) (c .before .before .before .least .ensures) (c .before .least2 .ensures))
+returns c =
+    let at-least = c .before .before .before in
+    rw (c .one-if2 .ensures .0, c .before .before .one-if .ensures .0) (
+    sixteenth-is _ _ _ (search needs) (search needs) (at-least .least .ensures) (c .before .least2 .ensures))
 
 pub sixteenth-spec : {M : Type 1} → statement M
 sixteenth-spec =
