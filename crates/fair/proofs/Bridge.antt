@@ -59,7 +59,7 @@ module _ (s : State) (bs : List Bucket) (clk t : ℕ) (cost : ℕ → ℕ) (fill
   verdict-of : (v : Verdict) (fs : List Bucket) (u : Use) (c : List Float) → verdicts.settled v fs u c .verdict ≡ v
   verdict-of v fs u c = go (verdicts.is-admitted v)
     where
-      go : (b : Bool) → cond b (record { verdict = v; buckets = flow.spent-all fs c; used = flow.charged u c }) (record { verdict = v; buckets = fs; used = u }) .verdict ≡ v
+      go : (b : Bool) → cond {A = Outcome} b (record { verdict = v; buckets = flow.spent-all fs c; used = flow.charged u c }) (record { verdict = v; buckets = fs; used = u }) .verdict ≡ v
       go true = refl
       go false = refl
 
@@ -70,7 +70,7 @@ module _ (s : State) (bs : List Bucket) (clk t : ℕ) (cost : ℕ → ℕ) (fill
   next = flow.tried (flow.fade-to (flow.credited used now fill) now) (priced cost)
 
   abbrev settled-by : Bool → Outcome
-  settled-by b = cond b (record { verdict = decision; buckets = flow.spent-all full (priced cost); used = flow.charged next (priced cost) }) (record { verdict = decision; buckets = full; used = next })
+  settled-by b = cond {A = Outcome} b (record { verdict = decision; buckets = flow.spent-all full (priced cost); used = flow.charged next (priced cost) }) (record { verdict = decision; buckets = full; used = next })
 
   used-of : (b : Bool) → settled-by b .used ≡ settled b next cost
   used-of true = refl

@@ -216,9 +216,9 @@ module _ (room : ℕ) (rate ceiling : List ℕ) (rates : shed.all-rates rate ≡
   key-of u ms = model.key Name same shares room (by-dim rate) (by-dim ceiling) (name-of u) ms
 
   module _ (r : Key) (s : State) (ms : List C) (b : Tie s ms) where
-    judge-on : (u : unit.Unit) (cost : List ℕ) (t : ℕ) → calls.refused s (Judge u cost t) ≡ false → calls.same-key r (calls.key s u (calls.now s t)) ≡ model.same-key Name same shares room (lift r) (key-of u ms)
+    judge-on : (u : unit.Unit) (cost : List ℕ) (t : ℕ) → calls.refused s (Judge u cost t) ≡ false → calls.same-key r (calls.key s u (calls.clock-at s t)) ≡ model.same-key Name same shares room (lift r) (key-of u ms)
     judge-on u cost t f =
-        key-same r (calls.key s u (calls.now s t))
+        key-same r (calls.key s u (calls.clock-at s t))
         ∙ ap (λ (k : K). model.same-key Name same shares room (lift r) k) (sym (judging.judge-key room rate rates (s .head) (s .memory) (store-of ms) (at-clock s ms b) u cost t f))
 
     cut-on : (u : unit.Unit) (c : Cause) (cost : List ℕ) → calls.refused s (Cut u c cost) ≡ false → calls.same-key r (calls.key s u (s .head .flow .«at_ms»)) ≡ model.same-key Name same shares room (lift r) (key-of u ms)
@@ -383,7 +383,7 @@ module _ (room : ℕ) (rate ceiling : List ℕ) (rates : shed.all-rates rate ≡
       ms = shown seen (es h)
 
       abbrev r : Key
-      r = calls.key s u (calls.now s t)
+      r = calls.key s u (calls.clock-at s t)
 
       newest : calls.event s j ∷ es h ≡ es (j ∷ h)
       unfolding calls.events
@@ -408,8 +408,8 @@ module _ (room : ℕ) (rate ceiling : List ℕ) (rates : shed.all-rates rate ≡
       spared : T (Ieee.le (calls.want s u cost t) one) → ((d : ℕ) → d < dims → Modest r d (es (j ∷ h))) → calls.judges s u cost t .answer ≡ answer.OverShare → ⊥
       unfolding ModelModest
       spared w m a =
-          the-claim .spared (name-of u) (judging.batch-at (s .head) u cost t (calls.entry s u (calls.now s t))) (judging.fills (s .head)) _ ms (lawful-all (es h) (whole h .along)) (lawful-same s ms (whole h .tie) j f)
-          (subst (λ (c : List Float). T (Ieee.le (calls.want-of (calls.used s u (calls.now s t)) (calls.now s t) c (calls.fills s) (s .head .level)) one)) (numbers-priced cost) w)
+          the-claim .spared (name-of u) (judging.batch-at (s .head) u cost t (calls.entry s u (calls.clock-at s t))) (judging.fills (s .head)) _ ms (lawful-all (es h) (whole h .along)) (lawful-same s ms (whole h .tie) j f)
+          (subst (λ (c : List Float). T (Ieee.le (calls.want-of (calls.used s u (calls.clock-at s t)) (calls.clock-at s t) c (calls.fills s) (s .head .level)) one)) (numbers-priced cost) w)
           (modest m)
           (over-of (judged-verdict s ms (whole h .tie) u cost t (clock stamp ms)) (sym (answer-same s ms (whole h .tie) u cost t f) ∙ a))
 

@@ -239,10 +239,10 @@ module _ (room : ℕ) (rate : List ℕ) where
       let ts = counts.pruned-tags s (counts.count-tags own k (h .counted) n) in
       counted-bound h (counts.pruned s .count) c r (rows (take (h .«unit_room») (m .tags) ++ ts) (m .units) (m .uses)) st clk (behind-bound h m ts st clk b)
 
-  told-bound : (h : Shedder) (k : List (List ℕ)) (n : sender-name.Name) (v : Verdict) (cost : List ℕ) (m : Rows) (st : S) (clk : ℕ) → Bound room rate h m st clk
-      → Bound room rate (shed.told (tally-on h m k) n v cost .head) (rows-then m (shed.told (tally-on h m k) n v cost)) st clk
-  unfolding shed.told
-  told-bound h k n v cost m st clk b = go (is-admitted v)
+  verdict-bound : (h : Shedder) (k : List (List ℕ)) (n : sender-name.Name) (v : Verdict) (cost : List ℕ) (m : Rows) (st : S) (clk : ℕ) → Bound room rate h m st clk
+      → Bound room rate (shed.count-verdict (tally-on h m k) n v cost .head) (rows-then m (shed.count-verdict (tally-on h m k) n v cost)) st clk
+  unfolding shed.count-verdict
+  verdict-bound h k n v cost m st clk b = go (is-admitted v)
     where
       go : (c : Bool) → Bound room rate (cond c (tally-on h m k) (shed.tallied (tally-on h m k) n (shed.cause-of v) (getD cost 0 0)) .head) (rows-then m (cond c (tally-on h m k) (shed.tallied (tally-on h m k) n (shed.cause-of v) (getD cost 0 0)))) st clk
       go true = b
@@ -255,7 +255,7 @@ module _ (room : ℕ) (rate : List ℕ) where
   -- the head that the scan finds
   abbrev tally-then : Shedder → Memory → unit.Unit → List ℕ → ℕ → shed.Tally
   tally-then h m u cost now =
-      shed.told (tally-on (shed.judged h (m .rows) u (shed.numbers cost) now .head) (shed.judged h (m .rows) u (shed.numbers cost) now .rows) (m .counted)) (sender.name-of u) (shed.judged h (m .rows) u (shed.numbers cost) now .verdict) cost
+      shed.count-verdict (tally-on (shed.judged h (m .rows) u (shed.numbers cost) now .head) (shed.judged h (m .rows) u (shed.numbers cost) now .rows) (m .counted)) (sender.name-of u) (shed.judged h (m .rows) u (shed.numbers cost) now .verdict) cost
 
   abbrev head-then : Shedder → Memory → unit.Unit → List ℕ → ℕ → Shedder
   head-then h m u cost now = tally-then h m u cost now .head
@@ -273,7 +273,7 @@ module _ (room : ℕ) (rate : List ℕ) where
         let now = max t (h .flow .«at_ms») in
         let p = shed.judged h (m .rows) u (shed.numbers cost) now in
         tied.scanned-bound room rate (head-then h m u cost now) (rows-then (p .rows) (tally-then h m u cost now)) (m .hist) _ now
-        (told-bound (p .head) (m .counted) (sender.name-of u) (p .verdict) cost (p .rows) _ now (judged-bound h (m .rows) st b u cost t))
+        (verdict-bound (p .head) (m .counted) (sender.name-of u) (p .verdict) cost (p .rows) _ now (judged-bound h (m .rows) st b u cost t))
 
     pub bounded-answer : shed.bounded h m u cost t .answer
         ≡ shed.answer-of (verdict-here (seen (resolve st u) st) (h .flow .«at_ms») (batch-at h u cost t (shed.entry (m .rows) (h .tracked) (h .«unit_room») u (max t (h .flow .«at_ms»)))) (fills h))

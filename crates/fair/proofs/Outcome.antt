@@ -46,14 +46,14 @@ outcome-of bs x clk t cost fill level rank = verdicts.judged bs x (max t clk) (m
 pub settled-whole : (v : Verdict) (bs : List Bucket) (u : Use) (c : List Float) → Whole u → Whole (verdicts.settled v bs u c .used)
 settled-whole v bs u c w = go (verdicts.is-admitted v)
   where
-    go : (b : Bool) → Whole (cond b (record { verdict = v; buckets = flow.spent-all bs c; used = flow.charged u c }) (record { verdict = v; buckets = bs; used = u }) .used)
+    go : (b : Bool) → Whole (cond {A = Outcome} b (record { verdict = v; buckets = flow.spent-all bs c; used = flow.charged u c }) (record { verdict = v; buckets = bs; used = u }) .used)
     go true = record { attempted = w .attempted; credit = upto-length (λ (d : ℕ). Ieee.sub binary64 (at (u .credit) d) (at c d)) dims (u .credit) ∙ w .credit }
     go false = w
 
 pub settled-long : (v : Verdict) (bs : List Bucket) (u : Use) (c : List Float) → length bs ≡ dims → length (verdicts.settled v bs u c .buckets) ≡ dims
 settled-long v bs u c l = go (verdicts.is-admitted v)
   where
-    go : (b : Bool) → length (cond b (record { verdict = v; buckets = flow.spent-all bs c; used = flow.charged u c }) (record { verdict = v; buckets = bs; used = u }) .buckets) ≡ dims
+    go : (b : Bool) → length (cond {A = Outcome} b (record { verdict = v; buckets = flow.spent-all bs c; used = flow.charged u c }) (record { verdict = v; buckets = bs; used = u }) .buckets) ≡ dims
     go true = upto-length (λ (d : ℕ). flow.spent (bucket-at bs d) (at c d)) dims bs ∙ l
     go false = l
 

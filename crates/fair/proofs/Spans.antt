@@ -106,9 +106,9 @@ tallied-span h i k n c r =
     ∙ ap (λ (z : ℕ). length (take room i) + z) (pruned-long s x ∙ count-long (drop room i) k (h .counted) n)
     ∙ sym (length-append (take room i) (drop room i)) ∙ ap (λ (l : List ℕ). length l) (take-append-drop room i)
 
-told-span : (h : Shedder) (i : List ℕ) (k : List (List ℕ)) (n : Name) (v : Verdict) (cost : List ℕ) → length (shed.told (shed.tally h i k) n v cost .tags) ≡ length i
-unfolding shed.told
-told-span h i k n v cost = go (is-admitted v)
+counted-span : (h : Shedder) (i : List ℕ) (k : List (List ℕ)) (n : Name) (v : Verdict) (cost : List ℕ) → length (shed.count-verdict (shed.tally h i k) n v cost .tags) ≡ length i
+unfolding shed.count-verdict
+counted-span h i k n v cost = go (is-admitted v)
   where
     go : (c : Bool) → length (cond c (shed.tally h i k) (shed.tallied (shed.tally h i k) n (shed.cause-of v) (getD cost 0 0)) .tags) ≡ length i
     go true = refl
@@ -120,9 +120,9 @@ unfolding shed.bounded
 bounded-span h m u cost t =
     let now = max t (h .flow .«at_ms») in
     let p = shed.judged h (m .rows) u (shed.numbers cost) now in
-    let y = shed.told (shed.tally (p .head) (p .rows .tags) (m .counted)) (sender.name-of u) (p .verdict) cost in
+    let y = shed.count-verdict (shed.tally (p .head) (p .rows .tags) (m .counted)) (sender.name-of u) (p .verdict) cost in
     scanned-span (y .head) (rows (y .tags) (p .rows .units) (p .rows .uses)) (m .hist) now
-    ∙ told-span (p .head) (p .rows .tags) (m .counted) (sender.name-of u) (p .verdict) cost ∙ judged-span h (m .rows) u (shed.numbers cost) now
+    ∙ counted-span (p .head) (p .rows .tags) (m .counted) (sender.name-of u) (p .verdict) cost ∙ judged-span h (m .rows) u (shed.numbers cost) now
 
 pub after-span : (s : shed.KeptBy) (k : List (List ℕ)) (u : unit.Unit) (c : Cause) (cost : List ℕ) → length (shed.cut-after k u c cost s .rows .tags) ≡ length (s .rows .tags)
 unfolding shed.noted

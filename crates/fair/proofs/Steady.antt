@@ -174,9 +174,9 @@ module _ (size : ℕ) where
       pruned-freed size (counts.count own k (h .counted) w c) (omega (arith, f .few)) (subst (λ (n : ℕ). Kept n (counts.count own k (h .counted) w c)) l (count-kept own k (h .counted) w c (omega (arith, f .few)))) in
       record { fine = record { clock = f .clock; at = f .at; began = f .began; read = f .read; tables = f .tables; room = f .room; few = p .few }; long = p .long }
 
-  pub told-fine : (h : Shedder) (i : List ℕ) (k : List (List ℕ)) (w : Name) (v : Verdict) (cost : List ℕ) (clk : ℕ) → Fine size h clk → length k ≡ size → Tallied (shed.told (shed.tally h i k) w v cost) clk
-  unfolding shed.told
-  told-fine h i k w v cost clk f l = go (is-admitted v)
+  pub counted-fine : (h : Shedder) (i : List ℕ) (k : List (List ℕ)) (w : Name) (v : Verdict) (cost : List ℕ) (clk : ℕ) → Fine size h clk → length k ≡ size → Tallied (shed.count-verdict (shed.tally h i k) w v cost) clk
+  unfolding shed.count-verdict
+  counted-fine h i k w v cost clk f l = go (is-admitted v)
     where
       go : (c : Bool) → Tallied (cond c (shed.tally h i k) (shed.tallied (shed.tally h i k) w (shed.cause-of v) (getD cost 0 0))) clk
       go true = record { fine = f; long = l }
@@ -193,8 +193,8 @@ module _ (size : ℕ) where
       let now = max t (h .flow .«at_ms») in
       let l : h .flow .«at_ms» ≤ max t (h .flow .«at_ms») = omega arith in
       let p = shed.judged h (m .rows) u (shed.numbers cost) now in
-      let t = shed.told (shed.tally (p .head) (p .rows .tags) (m .counted)) (sender.name-of u) (p .verdict) cost in
-      let q = told-fine (p .head) (p .rows .tags) (m .counted) (sender.name-of u) (p .verdict) cost now (judged-fine h (m .rows) u (shed.numbers cost) (h .flow .«at_ms») now l (b .fine)) (b .long) in
+      let t = shed.count-verdict (shed.tally (p .head) (p .rows .tags) (m .counted)) (sender.name-of u) (p .verdict) cost in
+      let q = counted-fine (p .head) (p .rows .tags) (m .counted) (sender.name-of u) (p .verdict) cost now (judged-fine h (m .rows) u (shed.numbers cost) (h .flow .«at_ms») now l (b .fine)) (b .long) in
       record { fine = scanned-fine (t .head) (rows (t .tags) (p .rows .units) (p .rows .uses)) (m .hist) now (q .fine); long = q .long }
 
   pub noted-lasts : (h : Shedder) (i : List ℕ) (k : List (List ℕ)) (u : unit.Unit) (c : Cause) (cost : List ℕ) (clk : ℕ) → Lasts h k clk → Lasts (shed.noted (shed.tally h i k) (sender.name-of u) c cost .head) (shed.noted (shed.tally h i k) (sender.name-of u) c cost .counted) clk

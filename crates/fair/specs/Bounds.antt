@@ -5,11 +5,11 @@ use Prim.Native.Nat.{ℕ}
 abbrev pub stale-after : ℕ
 stale-after = 8000
 
--- "admitted at most (4 + T) * highest fill": 4 s
+-- the depth of the bound on what is admitted on a record, (4 + T) * highest fill: 4 s
 abbrev pub most-depth : ℕ
 most-depth = 4000
 
--- "not called over share if tried at most (4 + T) * lowest fill": 4 s
+-- the depth of the condition of the last claim, (4 + T) * lowest fill: 4 s
 abbrev pub least-depth : ℕ
 least-depth = 4000
 

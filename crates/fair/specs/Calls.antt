@@ -1,6 +1,6 @@
 -- Demand 3, in terms of the real calls: every list of calls on one shedder's head and memory, from a start at bounded rates on. Definitions, and the statement.
--- To be laid beside document 01's paragraphs on demand 3: the words in quotes are the paper's. All levels, wants, fills, drops and the record that a call uses are those of demand 2's
--- definitions (`judge`, `cut` and what they are made of, which the contracts of the program cite): nothing here is read out of the program.
+-- It says in exact terms what document 01 asks of a list of calls (its section on the verdict). All quantities come from the definitions that the contracts cite (`judge`, `cut` and what they
+-- are made of), and nothing out of the program. Crate meaning's page says the same of each call: meaning/proofs/Agrees proves them equal.
 use Prim.Native.Nat.{ℕ, suc, _+_, _-_, _*_, _≤_, _<_, max}
 use mathlib.Core.Path.{_≡_}
 use mathlib.Core.Bool.{Bool, true, false, cond}
@@ -34,9 +34,9 @@ use Rattle.fair.specs.Bounds.{most-depth, least-depth, parts}
 use Rattle.fair.specs.Tokens.{burst}
 
 -- ---- calls
--- "The list holds every call on one shedder's head and memory: judgements, cuts, reports and the call beside them, readings of a count, level or rate"
+-- what may be called of a shedder
 pub data Reading : Type 0 where
-  -- a report into a buffer, and the call beside it: "the report's buffer may hold anything"
+  -- a report into a buffer of any bytes, and the call beside it
   Report : List ℕ → Reading
   ReportBeside : List ℕ → Reading
   -- the batches cut for a cause, the tables visited, a level, a rate, whether the relay is bounded
@@ -63,7 +63,7 @@ abbrev pub state-of : Shedder → Memory → State
 state-of h m = record { head = h; memory = m }
 
 -- ---- refusals by number
--- "Report: 3, 4, 7": the number that the contracts of the report and of the call beside it cite
+-- of a report: the number that its contract and that of the call beside it cite
 abbrev pub report-number : State → List ℕ → ℕ
 report-number s out =
     report-asked (s .head) (length (s .memory .rows .tags)) (length (s .memory .rows .units)) (length (s .memory .rows .uses)) (s .memory .counted) (length out)
@@ -74,7 +74,7 @@ judges s u cost t = shed.judge (s .head) (s .memory) u cost t
 abbrev pub cuts : State → unit.Unit → Cause → List ℕ → shed.Cut
 cuts s u c cost = shed.cut (s .head) (s .memory .rows) (s .memory .counted) u c cost
 
--- document 01's number of a call's refusal, 0 where it is not refused
+-- of any call: 0 where it is not refused
 abbrev pub read-number : State → Reading → ℕ
 read-number s (Report out) = report-number s out
 read-number s (ReportBeside out) = report-number s out
@@ -111,13 +111,13 @@ abbrev pub after : Event → State
 after e = step (e .before) (e .call)
 
 module _ (first : State) where
-  -- "Each call gets head and memory as the call before, refused or not, left them"; the newest call first
+  -- each call gets what the call before left, refused or not; the newest call stands first
   unfoldable pub state : List Call → State
   state [] = first
   state (c ∷ h) = step (state h) c
 
-  -- "Numbered refusals stand in the list but count as no call": the rest, the newest first. "with them left out, a run is any n consecutive calls of the rest, n at least 1":
-  -- the newest n = suc k of `events h` (all of them, where there are fewer: the bounds then hold all the more); what is said holds of every list h, so of the runs further back too, each the newest of the list that ends with it.
+  -- a refused call stands in the list and is none of these: the calls that were taken, the newest first. A run of n = suc k calls is the newest n of them (all, where there are fewer: the bounds then
+  -- hold all the more). What is said holds of every list h, so of the runs further back too: each is the newest of the list that ends with it.
   unfoldable pub events : List Call → List Event
   events [] = []
   events (c ∷ h) = cond (refused (state h) c) (events h) (event (state h) c ∷ events h)
@@ -126,7 +126,7 @@ module _ (first : State) where
 abbrev pub by : {A : Type 0} → (State → Call → A) → Event → List Event → A
 by f e es = f (e .before) (e .call)
 
--- "The clock after a call is the highest stamp so far of a call not refused by number, 0 before any"
+-- the clock goes by the stamps of the calls taken: the highest of them, and 0 at first
 abbrev pub stamp-of : Call → ℕ
 stamp-of (Judge u cost t) = t
 stamp-of (Cut u c cost) = 0
@@ -135,12 +135,12 @@ stamp-of (Read q) = 0
 abbrev pub stamp : Event → ℕ
 stamp e = stamp-of (e .call)
 
--- "T is the seconds from the clock after the run's first call to that after its last", here in milliseconds, for the run of suc k calls
+-- T of the run of suc k calls, in milliseconds: how far the clock moved behind its first call
 abbrev pub span : List Event → ℕ → ℕ
 span es k = clock stamp es - clock stamp (back k es)
 
 -- ---- records
--- "Overflow's record counts as a record"; "a sender's record dropped and added again is the same record": a record is named by its unit
+-- overflow's record, or a sender's, named by its unit: dropped and added again it is the same
 pub data Key : Type 0 where
   shared : Key
   own : unit.Unit → Key
@@ -155,24 +155,24 @@ same-key shared (own v) = false
 same-key (own u) shared = false
 same-key (own u) (own v) = same-name (sender.name-of u) (sender.name-of v)
 
--- "the record that a judgement or cut uses": found, or added, or overflow's
+-- the record that a call uses: found, added, or overflow's
 abbrev pub entry : State → unit.Unit → ℕ → shed.Entered
-entry s u now = shed.entry (s .memory .rows) (s .head .tracked) (s .head .«unit_room») u now
+entry s u clock = shed.entry (s .memory .rows) (s .head .tracked) (s .head .«unit_room») u clock
 
 abbrev pub key-at : Bool → unit.Unit → Key
 key-at true u = own u
 key-at false u = shared
 
 abbrev pub key : State → unit.Unit → ℕ → Key
-key s u now = key-at (ltb (entry s u now .place .at) (s .head .«unit_room»)) u
+key s u clock = key-at (ltb (entry s u clock .place .at) (s .head .«unit_room»)) u
 
 -- the clock that a judgement stamped t goes by
-abbrev pub now : State → ℕ → ℕ
-now s t = max t (s .head .flow .«at_ms»)
+abbrev pub clock-at : State → ℕ → ℕ
+clock-at s t = max t (s .head .flow .«at_ms»)
 
 -- the use that a judgement finds there
 abbrev pub used : State → unit.Unit → ℕ → Use
-used s u now = shed.used-at (entry s u now .rows .units) (entry s u now .rows .uses) (s .head .overflow) (entry s u now .place .at)
+used s u clock = shed.used-at (entry s u clock .rows .units) (entry s u clock .rows .uses) (s .head .overflow) (entry s u clock .place .at)
 
 -- the fill in each dimension, and how many times the level the sender wants
 abbrev pub fills : State → List Float
@@ -183,7 +183,7 @@ want-of u clock cost fill level =
     verdicts.want (verdicts.weight-of (is-fresh (u .fresh)) (clock - u .«at_ms»)) (verdicts.met u clock fill cost .attempted) cost level
 
 abbrev pub want : State → unit.Unit → List ℕ → ℕ → Float
-want s u cost t = want-of (used s u (now s t)) (now s t) (shed.numbers cost) (fills s) (s .head .level)
+want s u cost t = want-of (used s u (clock-at s t)) (clock-at s t) (shed.numbers cost) (fills s) (s .head .level)
 
 -- ---- what is counted
 abbrev pub if-admitted : Answer → ℕ → ℕ
@@ -197,13 +197,13 @@ if-ceiling cause.ReceiverCeiling c = c
 if-ceiling cause.OverShare c = 0
 if-ceiling cause.RelayRate c = 0
 
--- "Admitted cost is the summed cost of the run's judgements answered with admission"
+-- the cost of a judgement answered with admission
 abbrev pub admitted : ℕ → State → Call → ℕ
 admitted d s (Judge u cost t) = if-admitted (judges s u cost t .answer) (getD cost d 0)
 admitted d s (Cut u c cost) = 0
 admitted d s (Read q) = 0
 
--- "a hand-back is the full cost of a ReceiverCeiling cut in the run"
+-- a hand-back: the whole cost of a cut for the receiver's ceiling
 abbrev pub handed : ℕ → State → Call → ℕ
 handed d s (Judge u cost t) = 0
 handed d s (Cut u c cost) = if-ceiling c (getD cost d 0)
@@ -212,34 +212,34 @@ handed d s (Read q) = 0
 -- ---- of one record
 module _ (r : Key) where
   abbrev pub admitted-on : ℕ → State → Call → ℕ
-  admitted-on d s (Judge u cost t) = cond (same-key r (key s u (now s t))) (if-admitted (judges s u cost t .answer) (getD cost d 0)) 0
+  admitted-on d s (Judge u cost t) = cond (same-key r (key s u (clock-at s t))) (if-admitted (judges s u cost t .answer) (getD cost d 0)) 0
   admitted-on d s (Cut u c cost) = 0
   admitted-on d s (Read q) = 0
 
-  -- "on the record that the cut uses"
+  -- on the record that the cut uses
   abbrev pub handed-on : ℕ → State → Call → ℕ
   handed-on d s (Judge u cost t) = 0
   handed-on d s (Cut u c cost) = if-ceiling c (cond (same-key r (key s u (s .head .flow .«at_ms»))) (getD cost d 0) 0)
   handed-on d s (Read q) = 0
 
-  -- "Cost tried is that of every judgement of the run on the record, by any sender and with any verdict, this batch included"
+  -- tried on the record: whoever sent it, whatever was answered
   abbrev pub tried-on : ℕ → State → Call → ℕ
-  tried-on d s (Judge u cost t) = cond (same-key r (key s u (now s t))) (getD cost d 0) 0
+  tried-on d s (Judge u cost t) = cond (same-key r (key s u (clock-at s t))) (getD cost d 0) 0
   tried-on d s (Cut u c cost) = 0
   tried-on d s (Read q) = 0
 
-  -- "the fills met at that record's judgements": "a fill counts at its double's exact value", in units of 2 ^ -1074; "with no judgement the highest is 0"
+  -- the fill met at a judgement on the record, at its exact value, in units of 2 ^ -1074; a call that is no judgement of it counts 0
   abbrev pub fill-on : ℕ → State → Call → ℕ
-  fill-on d s (Judge u cost t) = cond (same-key r (key s u (now s t))) (units (at (fills s) d)) 0
+  fill-on d s (Judge u cost t) = cond (same-key r (key s u (clock-at s t))) (units (at (fills s) d)) 0
   fill-on d s (Cut u c cost) = 0
   fill-on d s (Read q) = 0
 
   abbrev pub judged-on : State → Call → Bool
-  judged-on s (Judge u cost t) = same-key r (key s u (now s t))
+  judged-on s (Judge u cost t) = same-key r (key s u (clock-at s t))
   judged-on s (Cut u c cost) = false
   judged-on s (Read q) = false
 
--- the record is in the store; "overflow's since the start"
+-- the record is in the store; overflow's always is
 abbrev pub present : Key → State → Bool
 present shared s = true
 present (own u) s = ltb (store.find (s .memory .rows .tags) (s .memory .rows .units) (sender.name-of u) (s .head .tracked)) (s .head .tracked)
@@ -248,7 +248,7 @@ abbrev pub present-after : Key → List Event → Bool
 present-after r [] = false
 present-after r (e ∷ es) = present r (after e)
 
--- the run of suc k calls begins with a judgement of the record, which is in the store after each call since: ""present" means since it was last added"
+-- the run of suc k calls begins with a judgement of the present record: it is in the store after each call since
 abbrev pub Present : Key → ℕ → List Event → Type 0
 Present r k es = Since (by (judged-on r)) (present-after r) k es
 
@@ -259,7 +259,7 @@ pub record Valued (x : Float) : Type 0 where
   pub exact : HasValue x false (units x) (power 1074)
 
 -- ---- THE DEMAND, of every list of calls h, every run of n = suc k calls, every dimension, from the state `first` that a start at these rates left.
--- "both sides are multiplied through to whole numbers": T in milliseconds, fills in units of 2 ^ -1074, all times 256000, which is 1000 * parts, and times 2 ^ 1074 where a fill stands; most-depth and least-depth are 4000 (specs/Bounds)
+-- In whole numbers: T in milliseconds, fills in units of 2 ^ -1074, all times 256000, which is 1000 * parts, and times 2 ^ 1074 where a fill stands; most-depth and least-depth are 4000 (specs/Bounds)
 pub record Demand (rate ceiling : List ℕ) (first : State) : Type 0 where
   -- admitted cost ≤ burst + rate * T + handed back + n / 256
   pub relay : (h : List Call) (d : ℕ) → d < dims → (k : ℕ)
@@ -269,15 +269,19 @@ pub record Demand (rate ceiling : List ℕ) (first : State) : Type 0 where
   pub share : (r : Key) (h : List Call) (d : ℕ) → d < dims → (k : ℕ)
       → 1000 * parts * sum (by (admitted-on r d)) (suc k) (events first h) * power 1074
       ≤ parts * ((most-depth + span (events first h) k) * highest (by (fill-on r d)) (suc k) (events first h)) + (1000 * parts * sum (by (handed-on r d)) (suc k) (events first h) + 1000 * suc k) * power 1074
-  -- "A sender's want is within the level when the verdict takes it by the rule "want up to 1"": such a batch is not answered OverShare, if in each dimension and every run
-  -- from a judgement of its present record to this batch: cost tried ≤ (4 + T) * the record's lowest fill - n / 256
-  pub spared : (h : List Call) (u : unit.Unit) (cost : List ℕ) (t : ℕ) → refused (state first h) (Judge u cost t) ≡ false → T (want (state first h) u cost t ⊴ one)
-      → ((d : ℕ) → d < dims → (k : ℕ) → Present (key (state first h) u (now (state first h) t)) k (events first (Judge u cost t ∷ h))
-      → (1000 * parts * sum (by (tried-on (key (state first h) u (now (state first h) t)) d)) (suc k) (events first (Judge u cost t ∷ h)) + 1000 * suc k) * power 1074
-      ≤ parts * ((least-depth + span (events first (Judge u cost t ∷ h)) k)
-      * lowest (by (judged-on (key (state first h) u (now (state first h) t)))) (by (fill-on (key (state first h) u (now (state first h) t)) d)) k (events first (Judge u cost t ∷ h))))
-      → judges (state first h) u cost t .answer ≡ answer.OverShare → ⊥
-  -- "a fill counts at its double's exact value": whatever calls were made, each fill has one
+  -- a batch whose want is up to 1 is not answered OverShare, if in each dimension and every run from a judgement of its present record r to this batch:
+  -- cost tried on r ≤ (4 + T) * the lowest fill of r - n / 256
+  pub spared : (h : List Call) (u : unit.Unit) (cost : List ℕ) (t : ℕ)
+      → (let s = state first h in
+      let r = key s u (clock-at s t) in
+      let es = events first (Judge u cost t ∷ h) in
+      refused s (Judge u cost t) ≡ false
+      → T (want s u cost t ⊴ one)
+      → ((d : ℕ) → d < dims → (k : ℕ) → Present r k es
+      → (1000 * parts * sum (by (tried-on r d)) (suc k) es + 1000 * suc k) * power 1074 ≤ parts * ((least-depth + span es k) * lowest (by (judged-on r)) (by (fill-on r d)) k es))
+      → judges s u cost t .answer ≡ answer.OverShare
+      → ⊥)
+  -- whatever calls were made, each fill has an exact value
   pub fill : (h : List Call) (d : ℕ) → d < dims → Valued (at (fills (state first h)) d)
 
 -- ---- AND IT LASTS: no list of calls leaves head or memory unfit, so questions 3, 4 and 9 are never answered no: a judgement is refused by its own cost or stamp alone, a cut by its cost, a reading never
@@ -295,7 +299,7 @@ starts was m rate ceiling = shed.start was (length (m .rows .tags)) (length (m .
 abbrev pub left : Shedder → Memory → List ℕ → List ℕ → State
 left was m rate ceiling = state-of (starts was m rate ceiling .head) (memory (m .rows) (starts was m rate ceiling .hist) (m .counted))
 
--- "It begins with what a start at bounded rates left, the records holding any bits": whatever head and memory were lent to the start, which was not refused. "A later start begins another list."
+-- from what a start at bounded rates left, whatever head and memory were lent to it; another start is the first state of another list
 abbrev pub Claim : Type 0
 Claim = (was : Shedder) (m : Memory) (rate ceiling : List ℕ) → shed.all-rates rate ≡ true → starts was m rate ceiling .answer ≡ begin.Started → Demand rate ceiling (left was m rate ceiling)
 

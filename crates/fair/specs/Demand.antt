@@ -71,8 +71,8 @@ pub record State : Type 0 where
   pub used : Kept
 
 abbrev pub found : Kept → ℕ → Use
-found absent now = flow.added now
-found (present u) now = u
+found absent clock = flow.added clock
+found (present u) clock = u
 
 abbrev pub priced : (ℕ → ℕ) → List Float
 priced c = each (λ (d : ℕ). whole (c d)) (replicate dims nothing)
@@ -108,9 +108,9 @@ aged true u = absent
 aged false u = present u
 
 abbrev pub dropped : Bool → Kept → ℕ → Kept
-dropped true absent now = absent
-dropped true (present u) now = aged (ltb (u .«at_ms» + stale-after) now) u
-dropped false k now = k
+dropped true absent clock = absent
+dropped true (present u) clock = aged (ltb (u .«at_ms» + stale-after) clock) u
+dropped false k clock = k
 
 abbrev pub does : State → ℕ → Deed → State
 does s clock (Here b fill) = record {

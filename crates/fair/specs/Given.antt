@@ -13,7 +13,7 @@ unfoldable pub use Rattle.scan.specs.Scanning.{visited, visit, again, ended, op
 pub use Rattle.store_entry.specs.Entering.{Entered, entered, place, headed}
 unfoldable pub use Rattle.store_entry.specs.Entering.{is-misplaced, entry, used-at, put-back}
 pub use Rattle.cut_counts.specs.Counting.{Tally, tally, source-tags}
-unfoldable pub use Rattle.cut_counts.specs.Counting.{cause-of, added, tallied, told}
+unfoldable pub use Rattle.cut_counts.specs.Counting.{cause-of, added, tallied, count-verdict}
 pub use Rattle.judge.specs.Judging.{Through, passing, outcome-at, Memory, memory, Judged, judge-ends}
 unfoldable pub use Rattle.judge.specs.Judging.{rank-at, outcome, flowed, judged, answer-of, bounded, judge}
 pub use Rattle.cut.specs.Cutting.{KeptBy, kept-by, handed-at, Cut, cut-ends, cut-after}

@@ -93,7 +93,7 @@ module _ (Name : Type 0) (same : Name → Name → Bool) (shares : Name → Bool
   -- ---- steps
   -- the scan comes by, and the row is more than 8 s old
   abbrev pub stale : (Row → Bool) → ℕ → Row → Bool
-  stale scanned now r = scanned r && ltb (r .used .«at_ms» + stale-after) now
+  stale scanned clock r = scanned r && ltb (r .used .«at_ms» + stale-after) clock
 
   abbrev pub after : Key → State → Store → Store
   after k t s = record { bucket = t .bucket; rows = rows-with k (t .used) (s .rows); overflow = overflow-with k (t .used) (s .overflow) }

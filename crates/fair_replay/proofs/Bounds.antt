@@ -15,7 +15,7 @@ use Rattle.sender.specs.declared.Unit as unit
 use Rattle.head.specs.declared.Answer.{Answer}
 use Rattle.head.specs.declared.Answer.the-variants as answer
 use Rattle.fair.specs.Calls as calls
-use Rattle.fair.specs.Calls.{State, Call, Judge, Event, Demand, event, events, by, span, admitted, handed, admitted-on, handed-on, fill-on, key, now, want, judges, refused}
+use Rattle.fair.specs.Calls.{State, Call, Judge, Event, Demand, event, events, by, span, admitted, handed, admitted-on, handed-on, fill-on, key, clock-at, want, judges, refused}
 use Rattle.fair.specs.Runs.{sum, highest}
 use Rattle.fair.proofs.Calls.{demand-three}
 use Rattle.fair_row.specs.Replay.{Run, key-of, totals, is-over-share, over-share, ends-over-share}
@@ -119,7 +119,7 @@ answer-is (answer.Refused n) f = absurd (true≢false (sym f))
 
 -- the third claim, of a state, a judgement and the calls up to it
 abbrev Third : unit.Unit → List ℕ → ℕ → State → List Event → Type 0
-Third u cost t s es = T (Ieee.le (want s u cost t) one) → Within (key s u (now s t)) es → judges s u cost t .answer ≡ answer.OverShare → ⊥
+Third u cost t s es = T (Ieee.le (want s u cost t) one) → Within (key s u (clock-at s t)) es → judges s u cost t .answer ≡ answer.OverShare → ⊥
 
 third : (rate ceiling : List ℕ) (first : State) (h : List Call) → Begun rate ceiling first → (s : State) (u : unit.Unit) (cost : List ℕ) (t : ℕ) → Newest first h (event s (Judge u cost t)) → Third u cost t s (events first h)
 third rate ceiling first h begun s u cost t n =

@@ -14,7 +14,7 @@ use Rattle.head.specs.declared.Begin.the-variants as begin
 use Rattle.head.specs.Questions.{all-rates}
 use Rattle.judge.specs.Judging.{Memory}
 use Rattle.fair.specs.Calls as calls
-use Rattle.fair.specs.Calls.{State, Judge, Event, Key, event, events, by, span, starts, handed, handed-on, tried-on, fill-on, judged-on, Present, key, now, want}
+use Rattle.fair.specs.Calls.{State, Judge, Event, Key, event, events, by, span, starts, handed, handed-on, tried-on, fill-on, judged-on, Present, key, clock-at, want}
 use Rattle.fair.specs.Runs.{sum, highest, lowest}
 use Rattle.fair.specs.Tokens.{burst}
 use Rattle.fair_row.specs.Replay.{Run, key-of}
@@ -53,4 +53,4 @@ Within r es = (d : ℕ) → d < dims → (k : ℕ) → Present r k es
 abbrev pub Spared : State → Run → Bool → Type 0
 Spared first x over = (rate ceiling : List ℕ) → Begun rate ceiling first → over ≡ true
     → (s : State) (u : unit.Unit) (cost : List ℕ) (t : ℕ) (es : List Event) → events first (x .list) ≡ event s (Judge u cost t) ∷ es
-    → T (want s u cost t ⊴ one) → Within (key s u (now s t)) (events first (x .list)) → ⊥
+    → T (want s u cost t ⊴ one) → Within (key s u (clock-at s t)) (events first (x .list)) → ⊥

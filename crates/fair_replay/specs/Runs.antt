@@ -5,6 +5,7 @@ use mathlib.Core.Bool.{Bool, cond}
 use mathlib.Core.List.{List}
 use lib.ListN.{length}
 use Rattle.sender.specs.declared.Unit as unit
+use Rattle.head.specs.Bits.{Same-but-nan-bits}
 use Rattle.fair.specs.Calls as calls
 use Rattle.fair.specs.Calls.{State, events}
 use Rattle.fair_row.specs.declared.Turned.{Turned}
@@ -23,7 +24,7 @@ pub record Adds (inside : Bool) (was : Replayed) (t : Turned) (r : Replayed) : T
 
 -- what the program has after the calls of x, from `first` on: head and memory `last`, the buffer `out`, and the totals of the run, modulo 2^64
 pub record Ran (watched : unit.Unit) (first : State) (x : Run) (r : Replayed) (last : State) (out : List ℕ) : Type 0 where
-  pub left : last ≡ calls.state first (x .list)
+  pub left : Same-but-nan-bits last (calls.state first (x .list))
   pub page : out ≡ x .page
   pub admitted : r .admitted ≡ totals calls.admitted (x .taken) (events first (x .list))
   pub admitted-on : r .«admitted_on» ≡ totals (calls.admitted-on (key-of watched)) (x .taken) (events first (x .list))

@@ -3,10 +3,15 @@ ghost use mathlib.Core.Path.{_≡_};
 ghost use Prim.Native.Nat.{min};
 ghost use Rattle.fair_row.specs.Replay as replay;
 ghost use Rattle.fair_replay.specs.Runs as runs;
+use fair_row::Turned;
 use flow::DIMS;
 use head::Shedder;
 use sender::Unit;
-use fair_row::Turned;
+use store::SourceRow;
+use store::UnitRow;
+use store::UseRow;
+use wants::Counts;
+use wants::Sums;
 
 // Sums in each dimension, modulo 2^64.
 fn sums(xs: [u64; DIMS], ys: [u64; DIMS]) -> [u64; DIMS]
@@ -92,11 +97,11 @@ fn least(a: usize, b: usize) -> usize
 pub fn replay(
     head: Shedder,
     tags: &mut [u16],
-    units: &mut [[u64; 7]],
-    uses: &mut [[f64; 2 * DIMS]],
-    counts: &mut [[u32; 768]; DIMS],
-    sums: &mut [[f64; 768]; DIMS],
-    counted: &mut [[u64; 8]],
+    units: &mut [UnitRow],
+    uses: &mut [UseRow],
+    counts: &mut Counts,
+    sums: &mut Sums,
+    counted: &mut [SourceRow],
     watched: Unit,
     list: &[[u64; 7 + DIMS]],
     from: usize,

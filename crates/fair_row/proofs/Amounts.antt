@@ -98,8 +98,8 @@ module _ (h : Shedder) (m : Memory) (row : List ℕ) (u : unit.Unit) (cost : Lis
   unfolding amounts
   judge-on watched mine xs ys x em ex ey en z =
       ey ∙ ap (λ (b : Bool). counted-if b xs) (em ∙ watched-is h m u cost (getD row 6 0) watched (sym (ap (λ (y : judging.Judged). judge-number (y .answer)) e) ∙ sym en ∙ z))
-      ∙ ap (counted-if (calls.same-key (key-of watched) (calls.key (calls.state-of h m) u (calls.now (calls.state-of h m) (getD row 6 0))))) (ex ∙ sym (ap (amounts calls.admitted (calls.state-of h m)) k))
-      ∙ on-parts (calls.same-key (key-of watched) (calls.key (calls.state-of h m) u (calls.now (calls.state-of h m) (getD row 6 0)))) (λ (d : ℕ). calls.admitted d (calls.state-of h m) (Judge u cost (getD row 6 0)))
+      ∙ ap (counted-if (calls.same-key (key-of watched) (calls.key (calls.state-of h m) u (calls.clock-at (calls.state-of h m) (getD row 6 0))))) (ex ∙ sym (ap (amounts calls.admitted (calls.state-of h m)) k))
+      ∙ on-parts (calls.same-key (key-of watched) (calls.key (calls.state-of h m) u (calls.clock-at (calls.state-of h m) (getD row 6 0)))) (λ (d : ℕ). calls.admitted d (calls.state-of h m) (Judge u cost (getD row 6 0)))
       ∙ ap (amounts (calls.admitted-on (key-of watched)) (calls.state-of h m)) k
 
   judge-over : (over : Bool) → over ≡ is-over-share (j .answer) → over ≡ over-share (calls.state-of h m) (judge-in row)

@@ -95,9 +95,9 @@ asked h m u cost t f =
     refl f
 
 pub watched-is : (h : Shedder) (m : Memory) (u : unit.Unit) (cost : List ℕ) (t : ℕ) (w : unit.Unit) → judge-number (judging.judge h m u cost t .answer) ≡ 0
-    → on-watched (m .rows .tags) (m .rows .units) (h .tracked) (h .«unit_room») w u ≡ calls.same-key (key-of w) (calls.key (calls.state-of h m) u (calls.now (calls.state-of h m) t))
+    → on-watched (m .rows .tags) (m .rows .units) (h .tracked) (h .«unit_room») w u ≡ calls.same-key (key-of w) (calls.key (calls.state-of h m) u (calls.clock-at (calls.state-of h m) t))
 unfolding on-watched
 watched-is h m u cost t w f =
     let r = asked-ready h (length (m .rows .tags)) (length (m .rows .units)) (length (m .rows .uses)) (length (m .counted)) cost t (asked h m u cost t f) in
     ap (λ (b : Bool). calls.same-key (key-of w) (calls.key-at b u))
-    (own-is (m .rows) (h .tracked) (h .«unit_room») u (calls.now (calls.state-of h m) t) (omega (arith, r .tags-room)) (r .units-room) (r .tracked-held))
+    (own-is (m .rows) (h .tracked) (h .«unit_room») u (calls.clock-at (calls.state-of h m) t) (omega (arith, r .tags-room)) (r .units-room) (r .tracked-held))

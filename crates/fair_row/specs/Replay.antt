@@ -19,6 +19,7 @@ use Rattle.head.specs.declared.Answer.the-variants as answer
 use Rattle.codes.specs.Numbers.{cause-of, dim-of}
 use Rattle.report.specs.Report as reports
 use Rattle.judge.specs.Judging as judging
+use Rattle.head.specs.Bits.{Same-but-nan-bits}
 use Rattle.fair.specs.Calls as calls
 use Rattle.fair.specs.Calls.{State, Call, Event, Key, Judge, Cut, Read, Reading, Report, ReportBeside, Count, Visited, Level, Rate, IsBounded, by}
 use Rattle.fair.specs.Runs.{sum}
@@ -164,7 +165,7 @@ on-watched tags units tracked room watched u = calls.same-key (key-of watched) (
 -- ---- one row
 -- what the program has after a row whose call is c: head and memory t, the number of its refusal, and what it amounts to; of a refused call what it amounts to on the watched record is left open, since nothing counts it
 pub record Turns (watched : unit.Unit) (s : State) (c : Call) (r : Turned) (t : State) : Type 0 where
-  pub left : t ≡ calls.step s c
+  pub left : Same-but-nan-bits t (calls.step s c)
   pub number : r .number ≡ calls.number s c
   pub admitted : r .admitted ≡ amounts calls.admitted s c
   pub handed : r .handed ≡ amounts calls.handed s c

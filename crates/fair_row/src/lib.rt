@@ -9,17 +9,22 @@ ghost use Rattle.wants.specs.Wants.{Hist};
 ghost use Rattle.judge.specs.Judging.{Memory};
 ghost use Rattle.fair.specs.Calls as calls;
 ghost use Rattle.fair_row.specs.Replay as replay;
-use flow::DIMS;
-use head::Answer;
-use head::Shedder;
 use codes::cause_of;
 use codes::cut_number;
 use codes::judge_number;
+use flow::DIMS;
+use head::Answer;
+use head::Shedder;
 use own::on_watched;
 use read::read_row;
 use rows::cost_in;
 use rows::words_in;
 use sender::Unit;
+use store::SourceRow;
+use store::UnitRow;
+use store::UseRow;
+use wants::Counts;
+use wants::Sums;
 
 fn is_admitted(answer: Answer) -> bool
     ensures { λ r. ⌜ r ≡ replay.is-admitted answer ⌝ }
@@ -66,11 +71,11 @@ pub struct Turned {
 fn judge_row(
     head: Shedder,
     tags: &mut [u16],
-    units: &mut [[u64; 7]],
-    uses: &mut [[f64; 2 * DIMS]],
-    counts: &mut [[u32; 768]; DIMS],
-    sums: &mut [[f64; 768]; DIMS],
-    counted: &mut [[u64; 8]],
+    units: &mut [UnitRow],
+    uses: &mut [UseRow],
+    counts: &mut Counts,
+    sums: &mut Sums,
+    counted: &mut [SourceRow],
     watched: Unit,
     row: [u64; 7 + DIMS],
 ) -> Turned
@@ -116,9 +121,9 @@ fn judge_row(
 fn cut_row(
     head: Shedder,
     tags: &mut [u16],
-    units: &mut [[u64; 7]],
-    uses: &mut [[f64; 2 * DIMS]],
-    counted: &mut [[u64; 8]],
+    units: &mut [UnitRow],
+    uses: &mut [UseRow],
+    counted: &mut [SourceRow],
     row: [u64; 7 + DIMS],
 ) -> Turned
     ensures { λ r. ⌜ ((watched : unit.Unit) (g : Hist) → replay.Turns watched
@@ -167,11 +172,11 @@ fn turned_by_reading(head: Shedder, number: u64) -> Turned
 pub fn turn(
     head: Shedder,
     tags: &mut [u16],
-    units: &mut [[u64; 7]],
-    uses: &mut [[f64; 2 * DIMS]],
-    counts: &mut [[u32; 768]; DIMS],
-    sums: &mut [[f64; 768]; DIMS],
-    counted: &mut [[u64; 8]],
+    units: &mut [UnitRow],
+    uses: &mut [UseRow],
+    counts: &mut Counts,
+    sums: &mut Sums,
+    counted: &mut [SourceRow],
     watched: Unit,
     row: [u64; 7 + DIMS],
     out: &mut [u8],

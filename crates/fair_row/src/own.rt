@@ -3,9 +3,10 @@ ghost use mathlib.Core.Path.{_≡_};
 ghost use Rattle.fair_row.specs.Replay as replay;
 use head::Shedder;
 use sender::Unit;
+use store::UnitRow;
 
 // Whether a judgement of the unit uses the unit's own record: found, or added. False where the slices are shorter than the records in use: such a judgement is refused.
-fn uses_own(head: Shedder, tags: &[u16], units: &[[u64; 7]], unit: Unit) -> bool
+fn uses_own(head: Shedder, tags: &[u16], units: &[UnitRow], unit: Unit) -> bool
     ensures { λ r. ⌜ r ≡ replay.own-used (now (tags .entry)) (now (units .entry)) (head .tracked) (head .«unit_room») unit ⌝ }
 {
     if sender::is_overflow(unit) {
@@ -26,13 +27,7 @@ fn uses_own(head: Shedder, tags: &[u16], units: &[[u64; 7]], unit: Unit) -> bool
 }
 
 // Whether a judgement of the unit uses the watched record: that of the unit `watched`, or overflow's where that is overflow.
-pub fn on_watched(
-    head: Shedder,
-    tags: &[u16],
-    units: &[[u64; 7]],
-    watched: Unit,
-    unit: Unit,
-) -> bool
+pub fn on_watched(head: Shedder, tags: &[u16], units: &[UnitRow], watched: Unit, unit: Unit) -> bool
     ensures { λ r. ⌜ r ≡ replay.on-watched (now (tags .entry)) (now (units .entry)) (head .tracked) (head .«unit_room») watched unit ⌝ }
 {
     if uses_own(head, tags, units, unit) {

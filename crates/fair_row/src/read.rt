@@ -4,8 +4,6 @@ ghost use Rattle.wants.specs.Wants.{Hist};
 ghost use Rattle.judge.specs.Judging.{Memory};
 ghost use Rattle.fair.specs.Calls as calls;
 ghost use Rattle.fair_row.specs.Replay as replay;
-use flow::DIMS;
-use head::Shedder;
 use codes::bounded_number;
 use codes::cause_of;
 use codes::dim_of;
@@ -13,6 +11,11 @@ use codes::level_number;
 use codes::rate_number;
 use codes::reading_number;
 use codes::report_number;
+use flow::DIMS;
+use head::Shedder;
+use store::SourceRow;
+use store::UnitRow;
+use store::UseRow;
 
 // The longest buffer that is written through `report`: the trial's.
 const PAGE: usize = 4096;
@@ -47,9 +50,9 @@ fn head_read(head: Shedder, which: u64, n: u64) -> u64
 fn put_report(
     head: Shedder,
     tags: &[u16],
-    units: &[[u64; 7]],
-    uses: &[[f64; 2 * DIMS]],
-    counted: &[[u64; 8]],
+    units: &[UnitRow],
+    uses: &[UseRow],
+    counted: &[SourceRow],
     out: &mut [u8],
 ) -> u64
     ensures { λ r. ⌜ ((g : Hist) → r ≡ calls.report-number
@@ -75,9 +78,9 @@ fn put_report(
 pub fn read_row(
     head: Shedder,
     tags: &[u16],
-    units: &[[u64; 7]],
-    uses: &[[f64; 2 * DIMS]],
-    counted: &[[u64; 8]],
+    units: &[UnitRow],
+    uses: &[UseRow],
+    counted: &[SourceRow],
     row: [u64; 7 + DIMS],
     out: &mut [u8],
 ) -> u64

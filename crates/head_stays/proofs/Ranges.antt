@@ -37,7 +37,7 @@ use Rattle.scan_trim.specs.Laws.{Rates, Trim, Levels}
 use Rattle.scan.specs.Scanning.{scanning}
 use Rattle.scan.proofs.Laws as scans
 use Rattle.store_entry.specs.Entering.{is-misplaced}
-use Rattle.cut_counts.specs.Counting.{Tally, tally, added, cause-of, tallied, told}
+use Rattle.cut_counts.specs.Counting.{Tally, tally, added, cause-of, tallied, count-verdict}
 use Rattle.judge.specs.Judging.{flowed, judged, Memory, Judged, bounded, judge}
 use Rattle.cut.specs.Cutting.{KeptBy, kept-by, hands-back, flowed-back, handed-back, Cut, noted, cut-after, cut}
 use Rattle.head_stays.specs.Ranges.{InRange, Ranges}
@@ -133,9 +133,9 @@ tallied-in : (h : Shedder) (i : List ℕ) (k : List (List ℕ)) (n : Name) (caus
 unfolding tallied added Held
 tallied-in h i k n cause receptions p = (p .0, record { trims = p .1 .trims; levels = p .1 .levels })
 
-told-in : (h : Shedder) (i : List ℕ) (k : List (List ℕ)) (n : Name) (v : Verdict) (cost : List ℕ) → Held h → Held (told (tally h i k) n v cost .head)
-unfolding told
-told-in h i k n v cost p = go (is-admitted v)
+counted-in : (h : Shedder) (i : List ℕ) (k : List (List ℕ)) (n : Name) (v : Verdict) (cost : List ℕ) → Held h → Held (count-verdict (tally h i k) n v cost .head)
+unfolding count-verdict
+counted-in h i k n v cost p = go (is-admitted v)
   where
     go : (b : Bool) → Held (cond b (tally h i k) (tallied (tally h i k) n (cause-of v) (getD cost 0 0)) .head)
     go true = p
@@ -146,8 +146,8 @@ unfolding bounded Held
 bounded-in h m u cost stamp p =
     let clock = max stamp (h .flow .«at_ms») in
     let j = judged h (m .rows) u (numbers cost) clock in
-    let t = told (tally (j .head) (j .rows .tags) (m .counted)) (name-of u) (j .verdict) cost in
-    let q = told-in (j .head) (j .rows .tags) (m .counted) (name-of u) (j .verdict) cost (judged-in h (m .rows) u (numbers cost) clock p) in
+    let t = count-verdict (tally (j .head) (j .rows .tags) (m .counted)) (name-of u) (j .verdict) cost in
+    let q = counted-in (j .head) (j .rows .tags) (m .counted) (name-of u) (j .verdict) cost (judged-in h (m .rows) u (numbers cost) clock p) in
     let s = scanning (t .head) (rows (t .tags) (j .rows .units) (j .rows .uses)) (m .hist) in
     record { trims = scans.stays .trims s clock (q .0) (q .1 .trims); levels = scans.stays .levels s clock (q .1 .levels) }
 

@@ -26,7 +26,7 @@ use Rattle.head.specs.Readings.{index-of}
 use Rattle.head.proofs.Asked.{asked-ready}
 use Rattle.scan.specs.Scanning.{scanning}
 use Rattle.store_entry.specs.Entering.{is-misplaced, Entered, entry}
-use Rattle.cut_counts.specs.Counting.{Tally, tally, source-tags, added, cause-of, tallied, told}
+use Rattle.cut_counts.specs.Counting.{Tally, tally, source-tags, added, cause-of, tallied, count-verdict}
 use Rattle.judge.specs.Judging.{flowed, judged, Memory, Judged, bounded, judge}
 use Rattle.cut.specs.Cutting.{KeptBy, kept-by, hands-back, flowed-back, handed-back, Cut, noted, cut-after, cut}
 use Rattle.head_stays.specs.Whole.{Stays}
@@ -132,9 +132,9 @@ cond-tally : (b : Bool) (x y : Tally) → Whole (x .head) → Whole (y .head) �
 cond-tally true x y p q = p
 cond-tally false x y p q = q
 
-told-whole : (h : Shedder) (i : List ℕ) (k : List (List ℕ)) (n : Name) (v : Verdict) (cost : List ℕ) → Whole h → length k ≡ h .«counted_room» → Whole (told (tally h i k) n v cost .head)
-unfolding told
-told-whole h i k n v cost w e = cond-tally (is-admitted v) (tally h i k) (tallied (tally h i k) n (cause-of v) (getD cost 0 0)) w (tallied-whole h i k n (cause-of v) (getD cost 0 0) w e)
+counted-whole : (h : Shedder) (i : List ℕ) (k : List (List ℕ)) (n : Name) (v : Verdict) (cost : List ℕ) → Whole h → length k ≡ h .«counted_room» → Whole (count-verdict (tally h i k) n v cost .head)
+unfolding count-verdict
+counted-whole h i k n v cost w e = cond-tally (is-admitted v) (tally h i k) (tallied (tally h i k) n (cause-of v) (getD cost 0 0)) w (tallied-whole h i k n (cause-of v) (getD cost 0 0) w e)
 
 -- ---- a judgement
 judged-room : (h : Shedder) (m : Rows) (u : Unit) (cost : List Float) (now : ℕ) → judged h m u cost now .head .«counted_room» ≡ h .«counted_room»
@@ -150,9 +150,9 @@ bounded-whole h m u cost stamp w p e =
     let clock = max stamp (h .flow .«at_ms») in
     let held : clock < 9007199254740992 = latest stamp (h .flow .«at_ms») p (w .clock) in
     let j = judged h (m .rows) u (numbers cost) clock in
-    let t = told (tally (j .head) (j .rows .tags) (m .counted)) (name-of u) (j .verdict) cost in
+    let t = count-verdict (tally (j .head) (j .rows .tags) (m .counted)) (name-of u) (j .verdict) cost in
     scanned-whole (scanning (t .head) (rows (t .tags) (j .rows .units) (j .rows .uses)) (m .hist)) clock
-    (told-whole (j .head) (j .rows .tags) (m .counted) (name-of u) (j .verdict) cost (judged-whole h (m .rows) u (numbers cost) clock w held) (e ∙ sym (judged-room h (m .rows) u (numbers cost) clock))) held
+    (counted-whole (j .head) (j .rows .tags) (m .counted) (name-of u) (j .verdict) cost (judged-whole h (m .rows) u (numbers cost) clock w held) (e ∙ sym (judged-room h (m .rows) u (numbers cost) clock))) held
 
 cond-judged : (b : Bool) (x y : Judged) → (b ≡ true → head-whole (x .head) ≡ true) → head-whole (y .head) ≡ true → head-whole (cond b x y .head) ≡ true
 cond-judged true x y p q = p refl

@@ -162,7 +162,12 @@ begun-whole h g clock w p =
     cond-started (leb 1 (h .scan .remaining)) (started h g) _ w
     (cond-started (ltb clock (h .scan .«began_ms» + 500)) (started h g) (started (opened h clock) wants.cleared) w (opened-whole h clock w p))
 
-scanned-case : (m : Rows) (b : Started) → Whole (b .head) → Whole (cond (leb 1 (b .head .scan .remaining)) (scanning (ended (again (visit (scanning (b .head) m (b .hist))) .head) (again (visit (scanning (b .head) m (b .hist))) .hist)) (again (visit (scanning (b .head) m (b .hist))) .rows) (again (visit (scanning (b .head) m (b .hist))) .hist)) (scanning (b .head) m (b .hist)) .head)
+scanned-case :
+    (m : Rows) (b : Started) → Whole (b .head)
+    → Whole (cond (leb 1 (b .head .scan .remaining))
+    (scanning (ended (again (visit (scanning (b .head) m (b .hist))) .head) (again (visit (scanning (b .head) m (b .hist))) .hist))
+    (again (visit (scanning (b .head) m (b .hist))) .rows) (again (visit (scanning (b .head) m (b .hist))) .hist))
+    (scanning (b .head) m (b .hist)) .head)
 scanned-case m b w =
     cond-scanning (leb 1 (b .head .scan .remaining)) _ (scanning (b .head) m (b .hist))
     (λ e. ended-whole (again (visit (scanning (b .head) m (b .hist))) .head) _ (again-whole (visit (scanning (b .head) m (b .hist))) (visit-whole (scanning (b .head) m (b .hist)) w (leb-true 1 (b .head .scan .remaining) e)))) w

@@ -14,7 +14,10 @@ reading-number-requires : tie.Need-reading-number-requires
 reading-number-requires c κs = search needs
 
 returns : tie.Need-returns
-returns c = λ m. count-is _ m _ _ _ _ _ (eq-eqb _ 4 (c .before .before .before .if1 .taken)) (c .before .before .cause-of .ensures) (c .before .cut-batches .ensures .0) (c .reading-number .ensures)
+returns c =
+    let at-if1 = c .before .before .before in
+    λ m. count-is _ m _ _ _ _ _ (eq-eqb _ 4 (at-if1 .if1 .taken)) (c .before .before .cause-of .ensures) (c .before .cut-batches .ensures .0)
+    (c .reading-number .ensures)
 
 visited-requires : tie.Need-visited-requires
 visited-requires c κs = search needs
@@ -23,7 +26,10 @@ reading-number-requires-2 : tie.Need-reading-number-requires-2
 reading-number-requires-2 c κs = search needs
 
 returns-2 : tie.Need-returns-2
-returns-2 c = λ m. visited-is _ m _ _ _ _ (ne-eqb _ 4 (c .before .before .before .if1 .left)) (eq-eqb _ 5 (c .before .before .if2 .taken)) (c .before .visited .ensures .0) (c .reading-number2 .ensures)
+returns-2 c =
+    let at-if1 = c .before .before .before in
+    λ m. visited-is _ m _ _ _ _ (ne-eqb _ 4 (at-if1 .if1 .left)) (eq-eqb _ 5 (c .before .before .if2 .taken)) (c .before .visited .ensures .0)
+    (c .reading-number2 .ensures)
 
 dim-of-requires : tie.Need-dim-of-requires
 dim-of-requires c κs = search needs

@@ -13,7 +13,9 @@ array-borrow-prefix-own : tie.Need-array-borrow-prefix-own
 array-borrow-prefix-own c = search needs
 
 slice-aggregate-report : tie.Need-slice-aggregate-report
-slice-aggregate-report c = front-length _ _ (c .before .before .before .if1 .taken)
+slice-aggregate-report c =
+    let at-if1 = c .before .before .before in
+    front-length _ _ (at-if1 .if1 .taken)
 
 report-requires : tie.Need-report-requires
 report-requires c κs = search needs

@@ -30,7 +30,8 @@ same-length-2 c = search needs
 
 returns-2 : tie.Need-returns-2
 returns-2 c =
-    let e = (ne-eqb _ 2 (c .before .before .before .if1 .left)) in
+    let at-if1 = c .before .before .before in
+    let e = (ne-eqb _ 2 (at-if1 .if1 .left)) in
     let f = (eq-eqb _ 3 (c .before .before .if2 .taken)) in
     ((λ g. beside-is _ _ _ _ e f (c .report-refusal .ensures)), (λ g. beside-page _ _ _ e f))
 
