@@ -1,47 +1,64 @@
--- What an exported call leaves is told by what the call behind it leaves. Assumes nothing.
-use mathlib.Core.Path.{_≡_, ap, _∙_}
+-- What an exported call leaves is the page's: what the call behind it leaves, by the law that the page says what its contract says. Assumes nothing.
+use mathlib.Core.Path.{_≡_, sym, ap, _∙_}
 use mathlib.Core.List.{List}
 use Prim.Native.Nat.{ℕ}
-use Rattle.sender.specs.declared.Unit as unit
+use lib.ListN.{length}
+use Rattle.sender.specs.declared.Unit.{Unit}
 use Rattle.store.specs.Store.{Rows}
 use Rattle.wants.specs.Wants.{Hist}
 use Rattle.head.specs.declared.Shedder.{Shedder}
 use Rattle.head.specs.declared.Cause.{Cause}
 use Rattle.head.specs.declared.Starting.{Starting}
+use Rattle.head.specs.declared.Written.{Written}
 use Rattle.head.specs.Answers.{start-number, cut-number}
 use Rattle.head.specs.Start as starts
 use Rattle.judge.specs.declared.Judgement.{Judgement}
-use Rattle.cut.specs.declared.Cutting.{Cutting}
 use Rattle.judge.specs.Judging as judging
+use Rattle.judge.specs.Judging.{Memory, memory}
+use Rattle.cut.specs.declared.Cutting.{Cutting}
 use Rattle.cut.specs.Cutting as cutting
-use Rattle.head.specs.declared.Written.{Written}
 use Rattle.report.specs.Report as reports
 use Rattle.codes.specs.declared.Count.{Count}
 use Rattle.codes.specs.Numbers.{judge-code, read-written}
-use Rattle.tankpost.specs.Calls.{start-ends, start-told, judge-ends, judge-told, cut-ends, cut-told, reported, report-told}
+use Rattle.meaning.specs.State.{After, after, told-as}
+use Rattle.meaning.specs.Page as page
+use Rattle.meaning.specs.Agrees.{of, started, judged, cut, start-with, report-with, asked-with}
+use Rattle.meaning.proofs.Agrees.{agrees}
+use Rattle.tankpost.specs.Calls.{reported, report-told}
 
-pub start-tells : (s : Starting) (g : Hist) (b : starts.Beginning) (n : ℕ) → starts.beginning s g ≡ b → n ≡ start-number (s .answer)
-    → start-ends n (s .head) g ≡ start-told b
-unfolding start-told
-start-tells s g b n e en = ap (λ (x : ℕ). start-ends x (s .head) g) en ∙ ap start-told e
+module _ (h : Shedder) (m : Rows) (g : Hist) (k : List (List ℕ)) where
+  abbrev lent : Memory
+  lent = memory m g k
 
-pub judge-tells : (j : Judgement) (m : judging.Memory) (h : Shedder) (was : judging.Memory) (u v : unit.Unit) (cost : List ℕ) (stamp n : ℕ)
-    → judging.judgement j m ≡ judging.judge h was u cost stamp → u ≡ v → n ≡ judge-code (j .answer)
-    → judge-ends n (j .head) m ≡ judge-told (judging.judge h was v cost stamp)
-unfolding judge-told
-judge-tells j m h was u v cost stamp n e eu en =
-    ap (λ (x : ℕ). judge-ends x (j .head) m) en ∙ ap judge-told e ∙ ap (λ (x : unit.Unit). judge-told (judging.judge h was x cost stamp)) eu
+  pub start-tells : (rate ceiling : List ℕ) (s : Starting) (left : Hist) (n : ℕ) → starts.beginning s left ≡ start-with h lent rate ceiling → n ≡ start-number (s .answer)
+      → after n (record { head = s .head; rows = m; hist = left; counted = k }) ≡ told-as start-number (page.start (of h lent) rate ceiling)
+  start-tells rate ceiling s left n e en =
+      ap (λ (x : ℕ). after x (record { head = s .head; rows = m; hist = left; counted = k })) en
+      ∙ ap (λ (b : starts.Beginning). told-as start-number (started lent b)) e
+      ∙ sym (ap (told-as start-number) (agrees .start-is h lent rate ceiling))
 
-pub cut-tells : (c : Cutting) (m : Rows) (k : List (List ℕ)) (h : Shedder) (was : Rows) (had : List (List ℕ)) (u v : unit.Unit) (p q : Cause) (cost : List ℕ) (n : ℕ)
-    → cutting.cutting c m k ≡ cutting.cut h was had u p cost → u ≡ v → p ≡ q → n ≡ cut-number (c .answer)
-    → cut-ends n (c .head) m k ≡ cut-told (cutting.cut h was had v q cost)
-unfolding cut-told
-cut-tells c m k h was had u v p q cost n e eu ep en =
-    ap (λ (x : ℕ). cut-ends x (c .head) m k) en
-    ∙ ap cut-told e
-    ∙ ap (λ (x : unit.Unit). cut-told (cutting.cut h was had x p cost)) eu
-    ∙ ap (λ (x : Cause). cut-told (cutting.cut h was had v x cost)) ep
+  pub judge-tells : (u v : Unit) (cost : List ℕ) (stamp : ℕ) (j : Judgement) (left : Memory) (n : ℕ)
+      → judging.judgement j left ≡ judging.judge h lent u cost stamp → u ≡ v → n ≡ judge-code (j .answer)
+      → after n (of (j .head) left) ≡ told-as judge-code (page.judge (of h lent) v cost stamp)
+  judge-tells u v cost stamp j left n e eu en =
+      ap (λ (x : ℕ). after x (of (j .head) left)) en
+      ∙ ap (λ (x : judging.Judged). told-as judge-code (judged x)) (e ∙ ap (λ (x : Unit). judging.judge h lent x cost stamp) eu)
+      ∙ sym (ap (told-as judge-code) (agrees .judge-is h lent v cost stamp))
 
-pub report-tells : (w : Written) (out : List ℕ) (e : reports.Ends) (n : Count) → reports.ends w out ≡ e → n ≡ read-written w → reported n out ≡ report-told e
-unfolding report-told
-report-tells w out e n told en = ap (λ (x : Count). reported x out) en ∙ ap report-told told
+  pub cut-tells : (u v : Unit) (p q : Cause) (cost : List ℕ) (c : Cutting) (rows : Rows) (counted : List (List ℕ)) (n : ℕ)
+      → cutting.cutting c rows counted ≡ cutting.cut h m k u p cost → u ≡ v → p ≡ q → n ≡ cut-number (c .answer)
+      → after n (record { head = c .head; rows = rows; hist = g; counted = counted }) ≡ told-as cut-number (page.cut (of h lent) v q cost)
+  cut-tells u v p q cost c rows counted n e eu ep en =
+      ap (λ (x : ℕ). after x (record { head = c .head; rows = rows; hist = g; counted = counted })) en
+      ∙ ap (λ (x : cutting.Cut). told-as cut-number (cut g x)) (e ∙ ap (λ (x : Unit). cutting.cut h m k x p cost) eu ∙ ap (λ (x : Cause). cutting.cut h m k v x cost) ep)
+      ∙ sym (ap (told-as cut-number) (agrees .cut-is h lent v q cost))
+
+  pub report-tells : (out : List ℕ) (w : Written) (left : List ℕ) (n : Count) → reports.ends w left ≡ report-with h lent out → n ≡ read-written w
+      → reported n left ≡ report-told (page.report (of h lent) out)
+  unfolding report-told
+  report-tells out w left n e en =
+      ap (λ (x : Count). reported x left) en
+      ∙ ap (λ (x : reports.Ends). reported (read-written (x .answer)) (x .out)) (e ∙ sym (agrees .report-is h lent out))
+
+  pub refusal-tells : (out : List ℕ) (n : ℕ) → n ≡ asked-with h lent (length out) → n ≡ page.report-refusal (of h lent) out
+  refusal-tells out n e = e ∙ sym (agrees .refusal-is h lent out)

@@ -1,26 +1,27 @@
 // The calls for relays in Rust or C. `rt staticlib tankpost` makes the archive that they link.
 // The head goes in and comes back by value; all other memory is lent. In C a slice is a pointer and a count, a reference to
-// an array is a pointer. Any bits may stand in head and memory, but that a `bool` is 0 or 1.
+// an array is a pointer. Any bits may stand in head and memory. Each contract cites the page of crate meaning.
 ghost use mathlib.Core.Path.{_≡_};
-ghost use lib.ListN.{length};
-ghost use Rattle.sender.specs.Sender as sender;
-ghost use Rattle.store.specs.Store as store;
-ghost use Rattle.wants.specs.Wants as wants;
-ghost use Rattle.head.specs.Start as starts;
-ghost use Rattle.head.specs.Readings as readings;
+ghost use Rattle.sender.specs.Sender.{unit-of};
+ghost use Rattle.wants.specs.Wants.{Hist};
+ghost use Rattle.head.specs.Answers.{start-number, cut-number};
 ghost use Rattle.head.specs.Bits.{Same-but-nan-bits};
-ghost use Rattle.judge.specs.Judging as judging;
-ghost use Rattle.cut.specs.Cutting as cutting;
-ghost use Rattle.report.specs.Report as reports;
-ghost use Rattle.codes.specs.Numbers as numbers;
-ghost use Rattle.tankpost.specs.Calls as calls;
-use flow::DIMS;
-use head::Shedder;
+ghost use Rattle.codes.specs.Numbers.{judge-code, cause-of, dim-of, read-count, read-level, read-rate, read-bounded};
+ghost use Rattle.meaning.specs.State.{state, state-with, after, told-as};
+ghost use Rattle.meaning.specs.Page as page;
+ghost use Rattle.tankpost.specs.Calls.{reported, report-told};
 use codes::Count;
 use codes::Level;
+use flow::DIMS;
+use head::Shedder;
 use sender::Words;
+use store::SourceRow;
+use store::UnitRow;
+use store::UseRow;
+use wants::Counts;
+use wants::Sums;
 
-// A call's answer as a number (crate numbers), and the head after it.
+// A call's answer as a number (crate codes), and the head after it.
 #[repr(C)]
 pub struct Answered {
     pub answer: u64,
@@ -32,15 +33,19 @@ pub struct Answered {
 pub extern "C" fn tankpost_start(
     head: Shedder,
     tags: &[u16],
-    units: &[[u64; 7]],
-    uses: &[[f64; 2 * DIMS]],
-    counts: &mut [[u32; 768]; DIMS],
-    sums: &mut [[f64; 768]; DIMS],
-    counted: &[[u64; 8]],
+    units: &[UnitRow],
+    uses: &[UseRow],
+    counts: &mut Counts,
+    sums: &mut Sums,
+    counted: &[SourceRow],
     rate: &[u64; DIMS],
     ceiling: &[u64; DIMS],
 ) -> Answered
-    ensures { λ r. ⌜ Same-but-nan-bits (calls.started r (wants.hist (now (counts .exit)) (now (sums .exit)))) (calls.start-told (starts.start head (length (now (tags .entry))) (length (now (units .entry))) (length (now (uses .entry))) (length (now (counted .entry))) (wants.hist (now (counts .entry)) (now (sums .entry))) (now (rate .entry)) (now (ceiling .entry)))) ⌝ }
+    ensures { λ r. ⌜ Same-but-nan-bits
+        (after (r .answer) (state (r .head) (now (tags .entry)) (now (units .entry)) (now (uses .entry)) (now (counts .exit)) (now (sums .exit)) (now (counted .entry))))
+        (told-as start-number
+        (page.start (state head (now (tags .entry)) (now (units .entry)) (now (uses .entry)) (now (counts .entry)) (now (sums .entry)) (now (counted .entry)))
+        (now (rate .entry)) (now (ceiling .entry)))) ⌝ }
 {
     let s = head::start(
         head,
@@ -66,16 +71,20 @@ pub extern "C" fn tankpost_start(
 pub extern "C" fn tankpost_judge(
     head: Shedder,
     tags: &mut [u16],
-    units: &mut [[u64; 7]],
-    uses: &mut [[f64; 2 * DIMS]],
-    counts: &mut [[u32; 768]; DIMS],
-    sums: &mut [[f64; 768]; DIMS],
-    counted: &mut [[u64; 8]],
+    units: &mut [UnitRow],
+    uses: &mut [UseRow],
+    counts: &mut Counts,
+    sums: &mut Sums,
+    counted: &mut [SourceRow],
     unit: Words,
     cost: &[u64; DIMS],
     stamp: u64,
 ) -> Answered
-    ensures { λ r. ⌜ Same-but-nan-bits (calls.judged r (judging.memory (store.rows (now (tags .exit)) (now (units .exit)) (now (uses .exit))) (wants.hist (now (counts .exit)) (now (sums .exit))) (now (counted .exit)))) (calls.judge-told (judging.judge head (judging.memory (store.rows (now (tags .entry)) (now (units .entry)) (now (uses .entry))) (wants.hist (now (counts .entry)) (now (sums .entry))) (now (counted .entry))) (sender.unit-of unit) (now (cost .entry)) stamp)) ⌝ }
+    ensures { λ r. ⌜ Same-but-nan-bits
+        (after (r .answer) (state (r .head) (now (tags .exit)) (now (units .exit)) (now (uses .exit)) (now (counts .exit)) (now (sums .exit)) (now (counted .exit))))
+        (told-as judge-code
+        (page.judge (state head (now (tags .entry)) (now (units .entry)) (now (uses .entry)) (now (counts .entry)) (now (sums .entry)) (now (counted .entry)))
+        (unit-of unit) (now (cost .entry)) stamp)) ⌝ }
 {
     let j = judge::judge(
         head,
@@ -102,14 +111,16 @@ pub extern "C" fn tankpost_judge(
 pub extern "C" fn tankpost_cut(
     head: Shedder,
     tags: &mut [u16],
-    units: &mut [[u64; 7]],
-    uses: &mut [[f64; 2 * DIMS]],
-    counted: &mut [[u64; 8]],
+    units: &mut [UnitRow],
+    uses: &mut [UseRow],
+    counted: &mut [SourceRow],
     unit: Words,
     cause: u64,
     cost: &[u64; DIMS],
 ) -> Answered
-    ensures { λ r. ⌜ Same-but-nan-bits (calls.cut r (store.rows (now (tags .exit)) (now (units .exit)) (now (uses .exit))) (now (counted .exit))) (calls.cut-told (cutting.cut head (store.rows (now (tags .entry)) (now (units .entry)) (now (uses .entry))) (now (counted .entry)) (sender.unit-of unit) (numbers.cause-of cause) (now (cost .entry)))) ⌝ }
+    ensures { λ r. ⌜ ((g : Hist) → Same-but-nan-bits
+        (after (r .answer) (state-with g (r .head) (now (tags .exit)) (now (units .exit)) (now (uses .exit)) (now (counted .exit))))
+        (told-as cut-number (page.cut (state-with g head (now (tags .entry)) (now (units .entry)) (now (uses .entry)) (now (counted .entry))) (unit-of unit) (cause-of cause) (now (cost .entry))))) ⌝ }
 {
     let c = cut::cut(
         head,
@@ -134,12 +145,13 @@ pub extern "C" fn tankpost_cut(
 pub extern "C" fn tankpost_report(
     head: Shedder,
     tags: &[u16],
-    units: &[[u64; 7]],
-    uses: &[[f64; 2 * DIMS]],
-    counted: &[[u64; 8]],
+    units: &[UnitRow],
+    uses: &[UseRow],
+    counted: &[SourceRow],
     out: &mut [u8],
 ) -> Count
-    ensures { λ r. ⌜ calls.reported r (now (out .exit)) ≡ calls.report-told (reports.report head (length (now (tags .entry))) (length (now (units .entry))) (length (now (uses .entry))) (now (counted .entry)) (now (out .entry))) ⌝ }
+    ensures { λ r. ⌜ ((g : Hist) → reported r (now (out .exit))
+        ≡ report-told (page.report (state-with g head (now (tags .entry)) (now (units .entry)) (now (uses .entry)) (now (counted .entry))) (now (out .entry)))) ⌝ }
 {
     let w = report::write_report(head, tags, units, uses, counted, out);
     codes::read_written(w)
@@ -150,12 +162,12 @@ pub extern "C" fn tankpost_report(
 pub extern "C" fn tankpost_report_refusal(
     head: Shedder,
     tags: &[u16],
-    units: &[[u64; 7]],
-    uses: &[[f64; 2 * DIMS]],
-    counted: &[[u64; 8]],
+    units: &[UnitRow],
+    uses: &[UseRow],
+    counted: &[SourceRow],
     out: &[u8],
 ) -> u64
-    ensures { λ r. ⌜ r ≡ reports.report-asked head (length (now (tags .entry))) (length (now (units .entry))) (length (now (uses .entry))) (now (counted .entry)) (length (now (out .entry))) ⌝ }
+    ensures { λ r. ⌜ ((g : Hist) → r ≡ page.report-refusal (state-with g head (now (tags .entry)) (now (units .entry)) (now (uses .entry)) (now (counted .entry))) (now (out .entry))) ⌝ }
 {
     report::report_refusal(head, tags, units, uses, counted, out)
 }
@@ -164,21 +176,21 @@ pub extern "C" fn tankpost_report_refusal(
 
 #[no_mangle]
 pub extern "C" fn tankpost_visited(head: Shedder) -> Count
-    ensures { λ r. ⌜ r ≡ numbers.read-count (readings.visited head) ⌝ }
+    ensures { λ r. ⌜ r ≡ read-count (page.visited head) ⌝ }
 {
     codes::read_count(head_readings::visited(head))
 }
 
 #[no_mangle]
 pub extern "C" fn tankpost_cut_batches(head: Shedder, cause: u64) -> Count
-    ensures { λ r. ⌜ r ≡ numbers.read-count (readings.cut-batches head (numbers.cause-of cause)) ⌝ }
+    ensures { λ r. ⌜ r ≡ read-count (page.cut-batches head (cause-of cause)) ⌝ }
 {
     codes::read_count(head_readings::cut_batches(head, codes::cause_of(cause)))
 }
 
 #[no_mangle]
 pub extern "C" fn tankpost_level(head: Shedder, dim: u64) -> Level
-    ensures { λ r. ⌜ Same-but-nan-bits r (numbers.read-level (readings.level-read head (numbers.dim-of dim))) ⌝ }
+    ensures { λ r. ⌜ Same-but-nan-bits r (read-level (page.level head (dim-of dim))) ⌝ }
 {
     codes::read_level(head_readings::level(head, codes::dim_of(dim)))
 }
@@ -186,7 +198,7 @@ pub extern "C" fn tankpost_level(head: Shedder, dim: u64) -> Level
 // An unbounded relay's rate reads u64::MAX.
 #[no_mangle]
 pub extern "C" fn tankpost_rate(head: Shedder, dim: u64) -> Count
-    ensures { λ r. ⌜ r ≡ numbers.read-rate (readings.rate-read head (numbers.dim-of dim)) ⌝ }
+    ensures { λ r. ⌜ r ≡ read-rate (page.rate head (dim-of dim)) ⌝ }
 {
     codes::read_rate(head_readings::rate(head, codes::dim_of(dim)))
 }
@@ -194,7 +206,7 @@ pub extern "C" fn tankpost_rate(head: Shedder, dim: u64) -> Count
 // 1 for a bounded relay, 0 for an unbounded one.
 #[no_mangle]
 pub extern "C" fn tankpost_is_bounded(head: Shedder) -> Count
-    ensures { λ r. ⌜ r ≡ numbers.read-bounded (readings.is-bounded head) ⌝ }
+    ensures { λ r. ⌜ r ≡ read-bounded (page.is-bounded head) ⌝ }
 {
     codes::read_bounded(head_readings::is_bounded(head))
 }

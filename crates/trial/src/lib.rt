@@ -3,6 +3,7 @@ ghost use mathlib.Core.Path.{_≡_};
 ghost use mathlib.Core.Bool.{true, false};
 ghost use Rattle.store.specs.Store.{rows};
 ghost use Rattle.wants.specs.Wants.{Hist, hist};
+ghost use Rattle.head.specs.Bits.{Same-but-nan-bits};
 ghost use Rattle.judge.specs.Judging.{Memory, memory};
 ghost use Rattle.trial.specs.Trial as trial;
 use flow::Bucket;
@@ -13,12 +14,17 @@ use head::CAUSES;
 use head::Flow;
 use head::Scan;
 use head::Shedder;
+use store::SourceRow;
+use store::UnitRow;
+use store::UseRow;
 use trial_script::Amounts;
 use trial_script::CutLine;
 use trial_script::JudgeLine;
 use trial_script::LINE_MOST;
 use trial_script::Line;
 use trial_script::StartLine;
+use wants::Counts;
+use wants::Sums;
 
 // The trial's sizes: unit records, counted records, the report's buffer.
 pub const UNITS: usize = 256;
@@ -57,7 +63,7 @@ fn has_begun(was: bool, answer: Begin) -> bool
 
 // No shedder yet: a head of zeros, which is not whole.
 pub fn unstarted() -> Trial
-    ensures { λ r. ⌜ (r .«is_started» ≡ false) × (r .at ≡ 0) ⌝ }
+    ensures { λ r. ⌜ r ≡ trial.unstarted ⌝ }
 {
     let none = [0u64; DIMS];
     let nothing = [0.0; DIMS];
@@ -107,7 +113,8 @@ pub fn unstarted() -> Trial
 }
 
 fn refused(mut t: Trial, out: &mut [u8], n: u64) -> Trial
-    ensures { λ r. ⌜ ((m : Memory) → trial.state r m (now (out .exit)) ≡ trial.refused (trial.state t m (now (out .entry))) n) ⌝ }
+    ensures { λ r. ⌜ ((m : Memory) → trial.state r m (now (out .exit))
+        ≡ trial.refused (trial.state t m (now (out .entry))) n) ⌝ }
 {
     let at = t.at;
     t.at = trial_script::put_refused(out, at, n);
@@ -117,15 +124,17 @@ fn refused(mut t: Trial, out: &mut [u8], n: u64) -> Trial
 fn start(
     t: Trial,
     tags: &[u16],
-    units: &[[u64; 7]],
-    uses: &[[f64; 2 * DIMS]],
-    counts: &mut [[u32; 768]; DIMS],
-    sums: &mut [[f64; 768]; DIMS],
-    counted: &[[u64; 8]],
+    units: &[UnitRow],
+    uses: &[UseRow],
+    counts: &mut Counts,
+    sums: &mut Sums,
+    counted: &[SourceRow],
     l: StartLine,
     out: &mut [u8],
 ) -> Trial
-    ensures { λ r. ⌜ trial.state r (memory (rows (now (tags .entry)) (now (units .entry)) (now (uses .entry))) (hist (now (counts .exit)) (now (sums .exit))) (now (counted .entry))) (now (out .exit)) ≡ trial.start (trial.state t (memory (rows (now (tags .entry)) (now (units .entry)) (now (uses .entry))) (hist (now (counts .entry)) (now (sums .entry))) (now (counted .entry))) (now (out .entry))) l ⌝ }
+    ensures { λ r. ⌜ trial.state r (memory (rows (now (tags .entry)) (now (units .entry)) (now (uses .entry))) (hist (now (counts .exit)) (now (sums .exit))) (now (counted .entry))) (now (out .exit))
+        ≡ trial.start
+        (trial.state t (memory (rows (now (tags .entry)) (now (units .entry)) (now (uses .entry))) (hist (now (counts .entry)) (now (sums .entry))) (now (counted .entry))) (now (out .entry))) l ⌝ }
 {
     let was = t.head;
     let s = head::start(
@@ -152,15 +161,17 @@ fn start(
 fn judge(
     t: Trial,
     tags: &mut [u16],
-    units: &mut [[u64; 7]],
-    uses: &mut [[f64; 2 * DIMS]],
-    counts: &mut [[u32; 768]; DIMS],
-    sums: &mut [[f64; 768]; DIMS],
-    counted: &mut [[u64; 8]],
+    units: &mut [UnitRow],
+    uses: &mut [UseRow],
+    counts: &mut Counts,
+    sums: &mut Sums,
+    counted: &mut [SourceRow],
     l: JudgeLine,
     out: &mut [u8],
 ) -> Trial
-    ensures { λ r. ⌜ trial.state r (memory (rows (now (tags .exit)) (now (units .exit)) (now (uses .exit))) (hist (now (counts .exit)) (now (sums .exit))) (now (counted .exit))) (now (out .exit)) ≡ trial.judge (trial.state t (memory (rows (now (tags .entry)) (now (units .entry)) (now (uses .entry))) (hist (now (counts .entry)) (now (sums .entry))) (now (counted .entry))) (now (out .entry))) l ⌝ }
+    ensures { λ r. ⌜ trial.state r (memory (rows (now (tags .exit)) (now (units .exit)) (now (uses .exit))) (hist (now (counts .exit)) (now (sums .exit))) (now (counted .exit))) (now (out .exit))
+        ≡ trial.judge
+        (trial.state t (memory (rows (now (tags .entry)) (now (units .entry)) (now (uses .entry))) (hist (now (counts .entry)) (now (sums .entry))) (now (counted .entry))) (now (out .entry))) l ⌝ }
 {
     if !t.is_started {
         return refused(t, out, NO_FORM);
@@ -192,13 +203,14 @@ fn judge(
 fn cut(
     t: Trial,
     tags: &mut [u16],
-    units: &mut [[u64; 7]],
-    uses: &mut [[f64; 2 * DIMS]],
-    counted: &mut [[u64; 8]],
+    units: &mut [UnitRow],
+    uses: &mut [UseRow],
+    counted: &mut [SourceRow],
     l: CutLine,
     out: &mut [u8],
 ) -> Trial
-    ensures { λ r. ⌜ ((g : Hist) → trial.state r (memory (rows (now (tags .exit)) (now (units .exit)) (now (uses .exit))) g (now (counted .exit))) (now (out .exit)) ≡ trial.cut (trial.state t (memory (rows (now (tags .entry)) (now (units .entry)) (now (uses .entry))) g (now (counted .entry))) (now (out .entry))) l) ⌝ }
+    ensures { λ r. ⌜ ((g : Hist) → trial.state r (memory (rows (now (tags .exit)) (now (units .exit)) (now (uses .exit))) g (now (counted .exit))) (now (out .exit))
+        ≡ trial.cut (trial.state t (memory (rows (now (tags .entry)) (now (units .entry)) (now (uses .entry))) g (now (counted .entry))) (now (out .entry))) l) ⌝ }
 {
     if !t.is_started {
         return refused(t, out, NO_FORM);
@@ -229,12 +241,13 @@ fn cut(
 fn report(
     mut t: Trial,
     tags: &[u16],
-    units: &[[u64; 7]],
-    uses: &[[f64; 2 * DIMS]],
-    counted: &[[u64; 8]],
+    units: &[UnitRow],
+    uses: &[UseRow],
+    counted: &[SourceRow],
     out: &mut [u8],
 ) -> Trial
-    ensures { λ r. ⌜ ((g : Hist) → trial.state r (memory (rows (now (tags .entry)) (now (units .entry)) (now (uses .entry))) g (now (counted .entry))) (now (out .exit)) ≡ trial.report (trial.state t (memory (rows (now (tags .entry)) (now (units .entry)) (now (uses .entry))) g (now (counted .entry))) (now (out .entry)))) ⌝ }
+    ensures { λ r. ⌜ ((g : Hist) → trial.state r (memory (rows (now (tags .entry)) (now (units .entry)) (now (uses .entry))) g (now (counted .entry))) (now (out .exit))
+        ≡ trial.report (trial.state t (memory (rows (now (tags .entry)) (now (units .entry)) (now (uses .entry))) g (now (counted .entry))) (now (out .entry)))) ⌝ }
 {
     if !t.is_started {
         return refused(t, out, NO_FORM);
@@ -255,15 +268,19 @@ fn report(
 pub fn answer(
     t: Trial,
     tags: &mut [u16],
-    units: &mut [[u64; 7]],
-    uses: &mut [[f64; 2 * DIMS]],
-    counts: &mut [[u32; 768]; DIMS],
-    sums: &mut [[f64; 768]; DIMS],
-    counted: &mut [[u64; 8]],
+    units: &mut [UnitRow],
+    uses: &mut [UseRow],
+    counts: &mut Counts,
+    sums: &mut Sums,
+    counted: &mut [SourceRow],
     line: &[u8],
     out: &mut [u8],
 ) -> Trial
-    ensures { λ r. ⌜ trial.state r (memory (rows (now (tags .exit)) (now (units .exit)) (now (uses .exit))) (hist (now (counts .exit)) (now (sums .exit))) (now (counted .exit))) (now (out .exit)) ≡ trial.answer (trial.state t (memory (rows (now (tags .entry)) (now (units .entry)) (now (uses .entry))) (hist (now (counts .entry)) (now (sums .entry))) (now (counted .entry))) (now (out .entry))) (now (line .entry)) ⌝ }
+    ensures { λ r. ⌜ Same-but-nan-bits
+        (trial.state r (memory (rows (now (tags .exit)) (now (units .exit)) (now (uses .exit))) (hist (now (counts .exit)) (now (sums .exit))) (now (counted .exit))) (now (out .exit)))
+        (trial.answer
+        (trial.state t (memory (rows (now (tags .entry)) (now (units .entry)) (now (uses .entry))) (hist (now (counts .entry)) (now (sums .entry))) (now (counted .entry))) (now (out .entry)))
+        (now (line .entry))) ⌝ }
 {
     if line.len() > LINE_MOST {
         return refused(t, out, NO_FORM);

@@ -28,7 +28,10 @@ same-length-4 : tie.Need-same-length-4
 same-length-4 c = search needs
 
 returns : tie.Need-returns
-returns c = cut-tells _ _ _ _ _ _ _ _ _ _ _ _ (c .before .before .before .before .before .before .before .cut .ensures .0) (c .before .before .before .before .before .before .before .before .before .before .unit-of .ensures) (c .before .before .before .before .before .before .before .before .before .cause-of .ensures) (c .cut-number .ensures)
+returns c =
+    let at-cut = c .before .before .before .before .before .before .before in
+    let at-cause-of = at-cut .before .before in
+    λ g. cut-tells _ _ g _ _ _ _ _ _ _ _ _ _ (at-cut .cut .ensures .0) (at-cause-of .before .unit-of .ensures) (at-cause-of .cause-of .ensures) (c .cut-number .ensures)
 
 pub tankpost-cut-spec : {M : Type 1} → statement M
 tankpost-cut-spec =

@@ -1,3 +1,4 @@
+use Rattle.judge.specs.Judging.{memory}
 use Rattle.tankpost.proofs.Told.{judge-tells}
 use borrow.Author.Needs.{needs}
 use Rattle.tankpost.proofs.tankpost_judge.Statement.{statement}
@@ -25,7 +26,9 @@ same-length-4 : tie.Need-same-length-4
 same-length-4 c = search needs
 
 returns : tie.Need-returns
-returns c = judge-tells _ _ _ _ _ _ _ _ _ (c .before .before .before .before .before .before .before .judge .ensures .0) (c .before .before .before .before .before .before .before .before .before .unit-of .ensures) (c .judge-code .ensures)
+returns c =
+    let at-judge = c .before .before .before .before .before .before .before in
+    judge-tells _ _ _ _ _ _ _ _ _ (memory _ _ _) _ (at-judge .judge .ensures .0) (at-judge .before .before .unit-of .ensures) (c .judge-code .ensures)
 
 pub tankpost-judge-spec : {M : Type 1} → statement M
 tankpost-judge-spec =

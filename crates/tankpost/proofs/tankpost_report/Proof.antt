@@ -13,7 +13,9 @@ same-length : tie.Need-same-length
 same-length c = search needs
 
 returns : tie.Need-returns
-returns c = report-tells _ _ _ _ (c .before .before .before .write-report .ensures .0) (c .read-written .ensures)
+returns c =
+    let at-write-report = c .before .before .before in
+    λ g. report-tells _ _ g _ _ _ _ _ (at-write-report .write-report .ensures .0) (c .read-written .ensures)
 
 pub tankpost-report-spec : {M : Type 1} → statement M
 tankpost-report-spec =

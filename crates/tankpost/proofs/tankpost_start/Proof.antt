@@ -10,7 +10,7 @@ start-number-requires : tie.Need-start-number-requires
 start-number-requires c κs = search needs
 
 returns : tie.Need-returns
-returns c = start-tells _ _ _ _ (c .before .before .start .ensures .0) (c .start-number .ensures)
+returns c = start-tells _ _ _ _ _ _ _ _ _ (c .before .before .start .ensures .0) (c .start-number .ensures)
 
 pub tankpost-start-spec : {M : Type 1} → statement M
 tankpost-start-spec = tie.close (tie.spec start-requires start-number-requires returns)

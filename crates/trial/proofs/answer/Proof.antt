@@ -20,7 +20,9 @@ same-length c = search needs
 returns : tie.Need-returns
 returns c =
     let a = c .before .before .before .before .before .before .before .before .args in
-    answer-long (state (a .t) (memory (rows (now (a .tags)) (now (a .units)) (now (a .uses))) (hist (now (a .counts)) (now (a .sums))) (now (a .counted))) (now (a .out))) (now (a .line)) _ (omega arith) (c .before .before .refused .ensures (memory (rows (now (a .tags)) (now (a .units)) (now (a .uses))) (hist (now (a .counts)) (now (a .sums))) (now (a .counted))))
+    let m = memory (rows (now (a .tags)) (now (a .units)) (now (a .uses))) (hist (now (a .counts)) (now (a .sums))) (now (a .counted)) in
+    let s = state (a .t) m (now (a .out)) in
+    answer-long s (now (a .line)) _ (omega arith) (c .before .before .refused .ensures m)
 
 read-line-requires : tie.Need-read-line-requires
 read-line-requires c κs = search needs
@@ -73,8 +75,13 @@ same-length-6 c = search needs
 returns-2 : tie.Need-returns-2
 unfolding call
 returns-2 c =
-    let a = c .before .before .before .before .before .before .before .before .before .before .before .before .before .before .before .before .before .before .args in
-    answer-line (state (a .t) (memory (rows (now (a .tags)) (now (a .units)) (now (a .uses))) (hist (now (a .counts)) (now (a .sums))) (now (a .counted))) (now (a .out))) (now (a .line)) _ _ (omega (arith, c .before .before .before .before .before .before .before .before .before .before .before .before .before .before .if1 .left)) (c .before .before .before .before .before .before .before .before .before .before .before .before .before .read-line .ensures .0) (c .before .before .start .ensures ∙ ap (call (state (a .t) (memory (rows (now (a .tags)) (now (a .units)) (now (a .uses))) (hist (now (a .counts)) (now (a .sums))) (now (a .counted))) (now (a .out)))) (sym (c .before .before .before .before .before .before .before .before .before .before .before .l .given .1)))
+    let at-l = c .before .before .before .before .before .before .before .before .before .before .before in
+    let at-read-line = at-l .before .before in
+    let at-if1 = at-read-line .before in
+    let a = at-if1 .before .before .before .before .args in
+    let m = memory (rows (now (a .tags)) (now (a .units)) (now (a .uses))) (hist (now (a .counts)) (now (a .sums))) (now (a .counted)) in
+    let s = state (a .t) m (now (a .out)) in
+    answer-line s (now (a .line)) _ _ (omega (arith, at-if1 .if1 .left)) (at-read-line .read-line .ensures .0) (c .before .before .start .ensures ∙ ap (call s) (sym (at-l .l .given .1)))
 
 same-length-7 : tie.Need-same-length-7
 same-length-7 c = search needs
@@ -94,8 +101,14 @@ same-length-11 c = search needs
 returns-3 : tie.Need-returns-3
 unfolding call
 returns-3 c =
-    let a = c .before .before .before .before .before .before .before .before .before .before .before .before .before .before .before .before .before .before .before .before .before .before .before .args in
-    answer-line (state (a .t) (memory (rows (now (a .tags)) (now (a .units)) (now (a .uses))) (hist (now (a .counts)) (now (a .sums))) (now (a .counted))) (now (a .out))) (now (a .line)) _ _ (omega (arith, c .before .before .before .before .before .before .before .before .before .before .before .before .before .before .before .before .before .before .before .if1 .left)) (c .before .before .before .before .before .before .before .before .before .before .before .before .before .before .before .before .before .before .read-line .ensures .0) (c .before .before .before .before .before .before .before .judge .ensures ∙ ap (call (state (a .t) (memory (rows (now (a .tags)) (now (a .units)) (now (a .uses))) (hist (now (a .counts)) (now (a .sums))) (now (a .counted))) (now (a .out)))) (sym (c .before .before .before .before .before .before .before .before .before .before .before .before .before .before .before .before .l2 .given .1)))
+    let at-judge = c .before .before .before .before .before .before .before in
+    let at-l2 = at-judge .before .before .before .before .before .before .before .before .before in
+    let at-read-line = at-l2 .before .before in
+    let at-if1 = at-read-line .before in
+    let a = at-if1 .before .before .before .before .args in
+    let m = memory (rows (now (a .tags)) (now (a .units)) (now (a .uses))) (hist (now (a .counts)) (now (a .sums))) (now (a .counted)) in
+    let s = state (a .t) m (now (a .out)) in
+    answer-line s (now (a .line)) _ _ (omega (arith, at-if1 .if1 .left)) (at-read-line .read-line .ensures .0) (at-judge .judge .ensures ∙ ap (call s) (sym (at-l2 .l2 .given .1)))
 
 same-length-12 : tie.Need-same-length-12
 same-length-12 c = search needs
@@ -115,8 +128,15 @@ same-length-16 c = search needs
 returns-4 : tie.Need-returns-4
 unfolding call
 returns-4 c =
-    let a = c .before .before .before .before .before .before .before .before .before .before .before .before .before .before .before .before .before .before .before .before .before .args in
-    answer-line (state (a .t) (memory (rows (now (a .tags)) (now (a .units)) (now (a .uses))) (hist (now (a .counts)) (now (a .sums))) (now (a .counted))) (now (a .out))) (now (a .line)) _ _ (omega (arith, c .before .before .before .before .before .before .before .before .before .before .before .before .before .before .before .before .before .if1 .left)) (c .before .before .before .before .before .before .before .before .before .before .before .before .before .before .before .before .read-line .ensures .0) (c .before .before .before .before .before .before .before .cut .ensures (hist (now (a .counts)) (now (a .sums))) ∙ ap (call (state (a .t) (memory (rows (now (a .tags)) (now (a .units)) (now (a .uses))) (hist (now (a .counts)) (now (a .sums))) (now (a .counted))) (now (a .out)))) (sym (c .before .before .before .before .before .before .before .before .before .before .before .before .before .before .l3 .given .1)))
+    let at-cut = c .before .before .before .before .before .before .before in
+    let at-l3 = at-cut .before .before .before .before .before .before .before in
+    let at-read-line = at-l3 .before .before in
+    let at-if1 = at-read-line .before in
+    let a = at-if1 .before .before .before .before .args in
+    let g = hist (now (a .counts)) (now (a .sums)) in
+    let m = memory (rows (now (a .tags)) (now (a .units)) (now (a .uses))) g (now (a .counted)) in
+    let s = state (a .t) m (now (a .out)) in
+    answer-line s (now (a .line)) _ _ (omega (arith, at-if1 .if1 .left)) (at-read-line .read-line .ensures .0) (at-cut .cut .ensures g ∙ ap (call s) (sym (at-l3 .l3 .given .1)))
 
 same-length-17 : tie.Need-same-length-17
 same-length-17 c = search needs
@@ -136,8 +156,15 @@ same-length-21 c = search needs
 returns-5 : tie.Need-returns-5
 unfolding call
 returns-5 c =
-    let a = c .before .before .before .before .before .before .before .before .before .before .before .before .before .before .before .args in
-    answer-line (state (a .t) (memory (rows (now (a .tags)) (now (a .units)) (now (a .uses))) (hist (now (a .counts)) (now (a .sums))) (now (a .counted))) (now (a .out))) (now (a .line)) _ _ (omega (arith, c .before .before .before .before .before .before .before .before .before .before .before .if1 .left)) (c .before .before .before .before .before .before .before .before .before .before .read-line .ensures .0) (c .before .before .report .ensures (hist (now (a .counts)) (now (a .sums))) ∙ ap (call (state (a .t) (memory (rows (now (a .tags)) (now (a .units)) (now (a .uses))) (hist (now (a .counts)) (now (a .sums))) (now (a .counted))) (now (a .out)))) (sym (c .before .before .before .before .before .before .before .before .enum-told .given .1)))
+    let at-enum-told = c .before .before .before .before .before .before .before .before in
+    let at-read-line = at-enum-told .before .before in
+    let at-if1 = at-read-line .before in
+    let a = at-if1 .before .before .before .before .args in
+    let g = hist (now (a .counts)) (now (a .sums)) in
+    let m = memory (rows (now (a .tags)) (now (a .units)) (now (a .uses))) g (now (a .counted)) in
+    let s = state (a .t) m (now (a .out)) in
+    answer-line s (now (a .line)) _ _ (omega (arith, at-if1 .if1 .left)) (at-read-line .read-line .ensures .0)
+    (c .before .before .report .ensures g ∙ ap (call s) (sym (at-enum-told .enum-told .given .1)))
 
 same-length-22 : tie.Need-same-length-22
 same-length-22 c = search needs
@@ -145,8 +172,14 @@ same-length-22 c = search needs
 returns-6 : tie.Need-returns-6
 unfolding call
 returns-6 c =
-    let a = c .before .before .before .before .before .before .before .before .before .before .before .args in
-    answer-line (state (a .t) (memory (rows (now (a .tags)) (now (a .units)) (now (a .uses))) (hist (now (a .counts)) (now (a .sums))) (now (a .counted))) (now (a .out))) (now (a .line)) _ _ (omega (arith, c .before .before .before .before .before .before .before .if1 .left)) (c .before .before .before .before .before .before .read-line .ensures .0) (c .before .before .refused2 .ensures (memory (rows (now (a .tags)) (now (a .units)) (now (a .uses))) (hist (now (a .counts)) (now (a .sums))) (now (a .counted))) ∙ ap (call (state (a .t) (memory (rows (now (a .tags)) (now (a .units)) (now (a .uses))) (hist (now (a .counts)) (now (a .sums))) (now (a .counted))) (now (a .out)))) (sym (c .before .before .before .before .enum-told2 .given .1)))
+    let at-enum-told2 = c .before .before .before .before in
+    let at-read-line = at-enum-told2 .before .before in
+    let at-if1 = at-read-line .before in
+    let a = at-if1 .before .before .before .before .args in
+    let m = memory (rows (now (a .tags)) (now (a .units)) (now (a .uses))) (hist (now (a .counts)) (now (a .sums))) (now (a .counted)) in
+    let s = state (a .t) m (now (a .out)) in
+    answer-line s (now (a .line)) _ _ (omega (arith, at-if1 .if1 .left)) (at-read-line .read-line .ensures .0)
+    (c .before .before .refused2 .ensures m ∙ ap (call s) (sym (at-enum-told2 .enum-told2 .given .1)))
 
 pub answer-spec : {M : Type 1} → statement M
 answer-spec =

@@ -17,8 +17,11 @@ same-length c = search needs
 
 returns : tie.Need-returns
 returns c =
-    let a = c .before .before .before .before .before .before .before .before .args in
-    λ g. cut-refused (state (a .t) (memory (rows (now (a .tags)) (now (a .units)) (now (a .uses))) g (now (a .counted))) (now (a .out))) (a .l) _ (not-true (a .t .«is_started») (c .before .before .before .before .if1 .taken)) (c .before .before .refused .ensures (memory (rows (now (a .tags)) (now (a .units)) (now (a .uses))) g (now (a .counted))))
+    let at-if1 = c .before .before .before .before in
+    let a = at-if1 .before .before .before .before .args in
+    λ g. cut-refused (state (a .t) (memory (rows (now (a .tags)) (now (a .units)) (now (a .uses))) g (now (a .counted))) (now (a .out))) (a .l) _
+    (not-true (a .t .«is_started») (at-if1 .if1 .taken))
+    (c .before .before .refused .ensures (memory (rows (now (a .tags)) (now (a .units)) (now (a .uses))) g (now (a .counted))))
 
 of-dims-requires : tie.Need-of-dims-requires
 of-dims-requires c κs = search needs
@@ -46,9 +49,13 @@ same-length-6 c = search needs
 
 returns-2 : tie.Need-returns-2
 returns-2 c =
-    let a = c .before .before .before .before .before .before .before .before .before .before .before .before .before .before .before .before .before .before .before .before .before .args in
-    λ g. cut-step (state (a .t) (memory (rows (now (a .tags)) (now (a .units)) (now (a .uses))) g (now (a .counted))) (now (a .out))) (a .l) (c .before .before .before .before .before .before .before .before .before .before .cut .result) _ _ _ _ (not-false (a .t .«is_started») (c .before .before .before .before .before .before .before .before .before .before .before .before .before .before .before .before .before .if1 .left)) (c .before .before .before .before .before .before .before .before .before .before .before .of-dims .ensures)
-    (c .before .before .before .before .before .before .before .before .before .before .cut .ensures .0) (c .before .before .put-done .ensures)
+    let at-cut = c .before .before .before .before .before .before .before .before .before .before in
+    let at-of-dims = at-cut .before in
+    let at-if1 = at-of-dims .before .before .before .before .before .before in
+    let a = at-if1 .before .before .before .before .args in
+    λ g. cut-step (state (a .t) (memory (rows (now (a .tags)) (now (a .units)) (now (a .uses))) g (now (a .counted))) (now (a .out))) (a .l)
+    (at-cut .cut .result) _ _ _ _ (not-false (a .t .«is_started») (at-if1 .if1 .left)) (at-of-dims .of-dims .ensures) (at-cut .cut .ensures .0)
+    (c .before .before .put-done .ensures)
 
 pub cut-spec : {M : Type 1} → statement M
 cut-spec =

@@ -18,8 +18,13 @@ same-length c = search needs
 
 returns : tie.Need-returns
 returns c =
-    let a = c .before .before .before .before .before .before .before .before .args in
-    judge-refused (state (a .t) (memory (rows (now (a .tags)) (now (a .units)) (now (a .uses))) (hist (now (a .counts)) (now (a .sums))) (now (a .counted))) (now (a .out))) (a .l) _ (not-true (a .t .«is_started») (c .before .before .before .before .if1 .taken)) (c .before .before .refused .ensures (memory (rows (now (a .tags)) (now (a .units)) (now (a .uses))) (hist (now (a .counts)) (now (a .sums))) (now (a .counted))))
+    let at-if1 = c .before .before .before .before in
+    let a = at-if1 .before .before .before .before .args in
+    judge-refused (state (a .t)
+    (memory (rows (now (a .tags)) (now (a .units)) (now (a .uses))) (hist (now (a .counts)) (now (a .sums))) (now (a .counted))) (now (a .out)))
+    (a .l) _ (not-true (a .t .«is_started») (at-if1 .if1 .taken))
+    (c .before .before .refused .ensures
+    (memory (rows (now (a .tags)) (now (a .units)) (now (a .uses))) (hist (now (a .counts)) (now (a .sums))) (now (a .counted))))
 
 of-dims-requires : tie.Need-of-dims-requires
 of-dims-requires c κs = search needs
@@ -47,9 +52,14 @@ same-length-6 c = search needs
 
 returns-2 : tie.Need-returns-2
 returns-2 c =
-    let a = c .before .before .before .before .before .before .before .before .before .before .before .before .before .before .before .before .before .before .before .before .before .before .before .args in
-    judge-step (state (a .t) (memory (rows (now (a .tags)) (now (a .units)) (now (a .uses))) (hist (now (a .counts)) (now (a .sums))) (now (a .counted))) (now (a .out))) (a .l) (c .before .before .before .before .before .before .before .before .before .before .judge .result) _ _ _ (not-false (a .t .«is_started») (c .before .before .before .before .before .before .before .before .before .before .before .before .before .before .before .before .before .before .before .if1 .left)) (c .before .before .before .before .before .before .before .before .before .before .before .of-dims .ensures)
-    (c .before .before .before .before .before .before .before .before .before .before .judge .ensures .0) (c .before .before .put-answer .ensures)
+    let at-judge = c .before .before .before .before .before .before .before .before .before .before in
+    let at-of-dims = at-judge .before in
+    let at-if1 = at-of-dims .before .before .before .before .before .before .before .before in
+    let a = at-if1 .before .before .before .before .args in
+    judge-step (state (a .t)
+    (memory (rows (now (a .tags)) (now (a .units)) (now (a .uses))) (hist (now (a .counts)) (now (a .sums))) (now (a .counted))) (now (a .out)))
+    (a .l) (at-judge .judge .result) _ _ _ (not-false (a .t .«is_started») (at-if1 .if1 .left)) (at-of-dims .of-dims .ensures)
+    (at-judge .judge .ensures .0) (c .before .before .put-answer .ensures)
 
 pub judge-spec : {M : Type 1} → statement M
 judge-spec =

@@ -18,8 +18,11 @@ same-length c = search needs
 
 returns : tie.Need-returns
 returns c =
-    let a = c .before .before .before .before .before .before .before .before .args in
-    λ g. report-unstarted (state (a .t) (memory (rows (now (a .tags)) (now (a .units)) (now (a .uses))) g (now (a .counted))) (now (a .out))) _ (not-true (a .t .«is_started») (c .before .before .before .before .if1 .taken)) (c .before .before .refused .ensures (memory (rows (now (a .tags)) (now (a .units)) (now (a .uses))) g (now (a .counted))))
+    let at-if1 = c .before .before .before .before in
+    let a = at-if1 .before .before .before .before .args in
+    λ g. report-unstarted (state (a .t) (memory (rows (now (a .tags)) (now (a .units)) (now (a .uses))) g (now (a .counted))) (now (a .out))) _
+    (not-true (a .t .«is_started») (at-if1 .if1 .taken))
+    (c .before .before .refused .ensures (memory (rows (now (a .tags)) (now (a .units)) (now (a .uses))) g (now (a .counted))))
 
 slice-aggregate-report-refusal : tie.Need-slice-aggregate-report-refusal
 slice-aggregate-report-refusal c = search needs
@@ -35,9 +38,15 @@ same-length-2 c = search needs
 
 returns-2 : tie.Need-returns-2
 returns-2 c =
-    let a = c .before .before .before .before .before .before .before .before .before .before .before .before .args in
-    λ g. report-refused (state (a .t) (memory (rows (now (a .tags)) (now (a .units)) (now (a .uses))) g (now (a .counted))) (now (a .out))) _ _ _ (not-false (a .t .«is_started») (c .before .before .before .before .before .before .before .before .if1 .left)) (c .before .before .before .before .before .report-refusal .ensures)
-    (omega (arith, slice-aggregate-report-refusal (c .before .before .before .before .before .before))) (c .before .before .before .before .if2 .taken) (c .before .before .refused2 .ensures (memory (rows (now (a .tags)) (now (a .units)) (now (a .uses))) g (now (a .counted))))
+    let at-if2 = c .before .before .before .before in
+    let at-report-refusal = at-if2 .before in
+    let before-report-refusal = at-report-refusal .before in
+    let at-if1 = before-report-refusal .before .before in
+    let a = at-if1 .before .before .before .before .args in
+    λ g. report-refused (state (a .t) (memory (rows (now (a .tags)) (now (a .units)) (now (a .uses))) g (now (a .counted))) (now (a .out))) _ _ _
+    (not-false (a .t .«is_started») (at-if1 .if1 .left)) (at-report-refusal .report-refusal .ensures)
+    (omega (arith, slice-aggregate-report-refusal before-report-refusal)) (at-if2 .if2 .taken)
+    (c .before .before .refused2 .ensures (memory (rows (now (a .tags)) (now (a .units)) (now (a .uses))) g (now (a .counted))))
 
 slice-aggregate-report : tie.Need-slice-aggregate-report
 slice-aggregate-report c = search needs
@@ -53,9 +62,18 @@ same-length-3 c = search needs
 
 returns-3 : tie.Need-returns-3
 returns-3 c =
-    let a = c .before .before .before .before .before .before .before .before .before .before .before .before .before .before .before .before .args in
-    λ g. report-step (state (a .t) (memory (rows (now (a .tags)) (now (a .units)) (now (a .uses))) g (now (a .counted))) (now (a .out))) _ _ _ _ _ (not-false (a .t .«is_started») (c .before .before .before .before .before .before .before .before .before .before .before .before .if1 .left)) (c .before .before .before .before .before .before .before .before .before .report-refusal .ensures)
-    (omega (arith, slice-aggregate-report-refusal (c .before .before .before .before .before .before .before .before .before .before))) (omega (arith, slice-aggregate-report (c .before .before .before .before .before .before .before))) (c .before .before .before .before .before .before .before .before .if2 .left) (c .before .before .before .before .before .before .report .ensures) (c .before .before .before .put .ensures)
+    let at-put = c .before .before .before in
+    let at-report = at-put .before .before .before in
+    let before-report = at-report .before in
+    let at-if2 = before-report .before in
+    let at-report-refusal = at-if2 .before in
+    let before-report-refusal = at-report-refusal .before in
+    let at-if1 = before-report-refusal .before .before in
+    let a = at-if1 .before .before .before .before .args in
+    λ g. report-step (state (a .t) (memory (rows (now (a .tags)) (now (a .units)) (now (a .uses))) g (now (a .counted))) (now (a .out))) _ _ _ _ _
+    (not-false (a .t .«is_started») (at-if1 .if1 .left)) (at-report-refusal .report-refusal .ensures)
+    (omega (arith, slice-aggregate-report-refusal before-report-refusal)) (omega (arith, slice-aggregate-report before-report)) (at-if2 .if2 .left)
+    (at-report .report .ensures) (at-put .put .ensures)
 
 pub report-spec : {M : Type 1} → statement M
 report-spec =

@@ -29,9 +29,15 @@ same-length c = search needs
 
 returns : tie.Need-returns
 returns c =
-    let a = c .before .before .before .before .before .before .before .before .before .before .before .before .before .before .args in
-    start-step (state (a .t) (memory (rows (now (a .tags)) (now (a .units)) (now (a .uses))) (hist (now (a .counts)) (now (a .sums))) (now (a .counted))) (now (a .out))) (a .l) (c .before .before .before .before .before .before .start .result) _ _ _ _ _ (c .before .before .before .before .before .before .before .before .of-dims .ensures) (c .before .before .before .before .before .before .before .of-dims2 .ensures) (c .before .before .before .before .before .before .start .ensures .0)
-    (c .before .before .before .put-begin .ensures) (c .has-begun .ensures)
+    let at-put-begin = c .before .before .before in
+    let at-start = at-put-begin .before .before .before in
+    let at-of-dims2 = at-start .before in
+    let at-of-dims = at-of-dims2 .before in
+    let a = at-of-dims .before .before .before .before .before .before .args in
+    start-step (state (a .t)
+    (memory (rows (now (a .tags)) (now (a .units)) (now (a .uses))) (hist (now (a .counts)) (now (a .sums))) (now (a .counted))) (now (a .out)))
+    (a .l) (at-start .start .result) _ _ _ _ _ (at-of-dims .of-dims .ensures) (at-of-dims2 .of-dims2 .ensures) (at-start .start .ensures .0)
+    (at-put-begin .put-begin .ensures) (c .has-begun .ensures)
 
 pub start-spec : {M : Type 1} → statement M
 start-spec =
