@@ -1,5 +1,5 @@
 /* Declarations for a C program that links target/staticlib/libtankpost.a (made by `rt staticlib tankpost`, x86-64).
-   The structs are those of crates/flow, head, sender, numbers and tankpost, field by field. */
+   The structs are those of crates/flow, head, sender, codes and tankpost, field by field. */
 #ifndef TANKPOST_H
 #define TANKPOST_H
 

@@ -1,5 +1,5 @@
 //! Declarations for a Rust program that links `target/staticlib/libtankpost.a` (made by `rt staticlib tankpost`), and the
-//! calls over memory that the program holds. The structs are those of crates/flow, head, sender, numbers and tankpost, field by field.
+//! calls over memory that the program holds. The structs are those of crates/flow, head, sender, codes and tankpost, field by field.
 //! For editions 2021 and 2024; Rust 1.82 or later.
 #![allow(dead_code)]
 

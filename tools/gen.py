@@ -8,9 +8,10 @@ Nothing here is trusted: the check computes that each entry is the double that t
 import os
 import struct
 import sys
+import textwrap
 
 CRATE = os.path.join(os.path.dirname(os.path.abspath(__file__)), '..', 'crates', 'fade')
-STEP = 2000  # entries of A: the milliseconds of one entry of B
+STEP = 2000  # WINDOW_MS of src/lib.rt: the entries of A, and the milliseconds of one entry of B
 
 
 class Table:
@@ -69,7 +70,7 @@ def tables_rt(a, b, long):
             'ghost use mathlib.Core.Path.{_≡_};\nghost use Prim.Native.Nat.{ℕ, _+_, _*_, _<_};\nghost use lib.Ieee.{binary64, ofBits};\nghost use lib.ListN.{getD};\n'
             'ghost use Rattle.fade.specs.Fade as spec;\n\n'
             '// How many entries B has.\nconst LONG: u64 = %d;\n\n'
-            '// The tables end at these milliseconds.\npub const END: u64 = %d * LONG;\n\n' % (long, STEP)
+            '// The tables end at these milliseconds.\npub const END: u64 = super::WINDOW_MS * LONG;\n\n' % long
             + '// The entries of a row of A, and of B.\npub const WIDTH_A: u64 = %d;\n\npub const WIDTH_B: u64 = %d;\n\n' % (a.width, b.width)
             + rt(a) + '\n' + rt(b))
 
@@ -134,7 +135,8 @@ def proof(t):
         fact = 'row %d (c .before .args .i) (c .before .pre) (c .match .keys%d)' % (i, i + 1) if i < last else 'last (c .before .args .i) (c .before .pre) (c .match .rest)'
         s += '%s : tie.Need-%s\nunfolding rows\n%s c = %s\n\n' % (name, name, name, fact)
     spec = t.fn.replace('_', '-') + '-spec'
-    s += 'pub %s : {M : Type 1} → statement M\n%s = tie.close (tie.spec %s)\n' % (spec, spec, ' '.join(names))
+    lines = textwrap.wrap('tie.close (tie.spec %s)' % ' '.join(names), width=143, break_on_hyphens=False)
+    s += 'pub %s : {M : Type 1} → statement M\n%s =\n    %s\n' % (spec, spec, '\n    '.join(lines))
     return s
 
 

@@ -1,5 +1,5 @@
 #!/usr/bin/env python3
-"""make_replay_list.py ORACLE GENS FOLDER: writes FOLDER/stdin and FOLDER/stdout of the program replayrun.
+"""make_replay_list.py ORACLE GENS FOLDER: writes FOLDER/stdin and FOLDER/stdout of the program check_replay.
 
 ORACLE is the Rust oracle's shedtrial, GENS the folder that holds gens.py. The first list is one script of gens.py with its
 first start only, lines that are refused strewn in, and a P at the end. Each of the others has a run where one of demand 3's

@@ -1,5 +1,5 @@
 #!/usr/bin/env python3
-"""make_sender_list.py ORACLE: writes crates/sendercheck/stdin and stdout.
+"""make_sender_list.py ORACLE: writes crates/check_sender/stdin and stdout.
 
 A list of units with the table and the hash that the oracle's `--hash` gives for their labels: the words of the unit
 (kind, a, b, c, d), the table, and hash >> 11, in hexadecimal. The expected output says how many lines the list has.
@@ -9,7 +9,7 @@ import os, random, subprocess, sys
 
 VECTORS = 12
 oracle = sys.argv[1]
-crate = os.path.join(os.path.dirname(os.path.dirname(os.path.abspath(__file__))), 'crates', 'sendercheck')
+crate = os.path.join(os.path.dirname(os.path.dirname(os.path.abspath(__file__))), 'crates', 'check_sender')
 random.seed(9923)
 
 def key(n):

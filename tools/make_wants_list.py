@@ -1,7 +1,7 @@
 #!/usr/bin/env python3
-"""Makes the list that crates/wantscheck replays, with the Rust oracle.
+"""Makes the list that crates/check_wants replays, with the Rust oracle.
 
-usage: make_wants_list.py ORACLE > crates/wantscheck/stdin
+usage: make_wants_list.py ORACLE > crates/check_wants/stdin
 
 ORACLE is the folder in which the oracle was built (with src/shed.rs, standin.rs, tables.rs and group.rs).
 The histogram and its level are those of the oracle's shed.rs; the bucket is its stand-in of document 01's rule.
