@@ -14,7 +14,7 @@ extern "C" {
 #define TANKPOST_CAUSES 3
 #define TANKPOST_BUCKETS 768
 
-/* Answers of a judgement: 0 admitted, these two cut, 1 to 9 refused by that number. */
+/* Answers of a judgement: 0 admitted, these two cut, 1 to 8 refused by that number. */
 #define TANKPOST_OVER_SHARE 16
 #define TANKPOST_RELAY_RATE 17
 

@@ -1,5 +1,5 @@
 // Document 01's cases at the edges, run through the real functions: the cases that crate `check_cases` proves of the definitions, the
-// cases that are only run, and every refusal. Number 9 is not here: store_entry/proofs/Nine proves that no call is refused by it.
+// cases that are only run, and every refusal.
 mod calls;
 mod steps;
 

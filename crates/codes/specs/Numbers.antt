@@ -1,5 +1,5 @@
 -- The numbers by which calls answer, and take a cause or a dimension. Definitions only.
--- A refused call answers document 01's number, 1 to 9. A call that was taken answers 0, but for the two verdicts that cut a batch: 16 and 17.
+-- A refused call answers document 01's number, 1 to 8. A call that was taken answers 0, but for the two verdicts that cut a batch: 16 and 17.
 use mathlib.Core.Bool.{cond}
 use Prim.Native.Nat.{ℕ}
 use lib.Dec.{eqb}

@@ -21,7 +21,7 @@ use Rattle.head.specs.declared.Done.the-variants as done
 use Rattle.cut.specs.declared.Cutting.{Cutting}
 use Rattle.head.specs.Questions.{is-unbounded, cut-asked}
 use Rattle.head.specs.Readings.{index-of}
-use Rattle.store_entry.specs.Entering.{is-misplaced, Entered, entry, used-at, Back, put-back, headed}
+use Rattle.store_entry.specs.Entering.{Entered, entry, used-at, Back, put-back, headed}
 use Rattle.cut_counts.specs.Counting.{Tally, tally, tallied}
 
 -- a bounded relay hands back a cut for the receiver's ceiling
@@ -91,11 +91,9 @@ cut-noted m n = cut-ends (n .answer) (n .head) (rows (n .tags) (m .units) (m .us
 abbrev pub cut-after : List (List ℕ) → unit.Unit → Cause → List ℕ → KeptBy → Cut
 cut-after k u c cost s = cut-noted (s .rows) (noted (tally (s .head) (s .rows .tags) k) (sender.name-of u) c cost)
 
--- THE CUT: the first question answered no gives its number and nothing changes; question 9 is asked where a record is sought
+-- THE CUT: the first question answered no gives its number and nothing changes
 unfoldable pub cut : Shedder → Rows → List (List ℕ) → unit.Unit → Cause → List ℕ → Cut
 cut h m k u c cost =
     cond (eqb (cut-asked h (length (m .tags)) (length (m .units)) (length (m .uses)) (length k) cost) 0)
-    (cond (hands-back (h .flow .rate) c)
-    (cond (is-misplaced (m .tags) (m .units) (h .tracked) (sender.name-of u)) (cut-ends (done.Refused 9) h m k) (cut-after k u c cost (handed-back (kept-by h m) u (flow.numbers cost))))
-    (cut-after k u c cost (kept-by h m)))
+    (cond (hands-back (h .flow .rate) c) (cut-after k u c cost (handed-back (kept-by h m) u (flow.numbers cost))) (cut-after k u c cost (kept-by h m)))
     (cut-ends (done.Refused (cut-asked h (length (m .tags)) (length (m .units)) (length (m .uses)) (length k) cost)) h m k)

@@ -173,12 +173,6 @@ pub fn cut(
     let name = sender::name_of(unit);
     if hands_back(rate, cause) {
         let i = store_search::find(tags, units, head.tracked, name);
-        if store_entry::is_misplaced(tags, units, head.tracked, name, i) {
-            return Cutting {
-                answer: Done::Refused(9),
-                head,
-            };
-        }
         let h = handed_back(head, tags, units, uses, unit, name, i, flow::numbers(cost));
         return noted(h, tags, counted, name, cause, cost);
     }

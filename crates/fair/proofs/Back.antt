@@ -13,7 +13,8 @@ use Rattle.flow.specs.Flow.{at, dims}
 use Rattle.flow.proofs.Parts.{upto-at, upto-length}
 use Rattle.sender.specs.declared.Words.{Words}
 use Rattle.sender.specs.declared.Name.{Name}
-use Rattle.store.specs.Store.{Rows, rows, part, picked, joined, unit-row, words-at, use-at, units-put, uses-put, added}
+use Rattle.store.specs.Store.{Rows, rows, part, picked, joined, unit-row, words-at, name-at, use-at, units-put, uses-put, added}
+use Rattle.store.proofs.Names.{words-put}
 use Rattle.fair.proofs.View as view
 use Rattle.store.proofs.Places.{Same}
 use Rattle.fair.proofs.Sweep as pass
@@ -131,17 +132,8 @@ module _ (room : ℕ) where
     pub put-elsewhere : (j : ℕ) → (j ≡ i → ⊥) → record-at (rows (m .tags) (units-put (m .units) i u) (uses-put (m .uses) i u)) j ≡ record-at m j
     put-elsewhere j h = record-same putted j m j (put-other j h)
 
-    words-kept : words-at (units-put (m .units) i u) i ≡ words-at (m .units) i
-    unfolding words-at units-put
-    words-kept =
-        let r = unit-row (m .units) i in
-        let e : getD (set (m .units) i (set (set r 5 (u .«at_ms»)) 6 (u .fresh))) i [] ≡ set (set r 5 (u .«at_ms»)) 6 (u .fresh) = getD-set-same (m .units) i _ [] hu in
-        let o : (k : ℕ) → k < 5 → getD (set (set r 5 (u .«at_ms»)) 6 (u .fresh)) k 0 ≡ getD r k 0 =
-        λ k h. getD-set-other (set r 5 (u .«at_ms»)) 6 k (u .fresh) 0 (λ q. absurd (omega arith)) ∙ getD-set-other r 5 k (u .«at_ms») 0 (λ q. absurd (omega arith)) in
-        simp (e, o 0 (omega arith), o 1 (omega arith), o 2 (omega arith), o 3 (omega arith), o 4 (omega arith))
-
-    pub put-there : record-at (rows (m .tags) (units-put (m .units) i u) (uses-put (m .uses) i u)) i ≡ row (view.name-at (m .tags) (m .units) i) u
+    pub put-there : record-at (rows (m .tags) (units-put (m .units) i u) (uses-put (m .uses) i u)) i ≡ row (name-at (m .tags) (m .units) i) u
     unfolding view.record-at
     put-there =
-        ap (λ (w : Words). row (record { tag = getD (m .tags) i 0; words = w }) (use-at (units-put (m .units) i u) (uses-put (m .uses) i u) i)) words-kept
-        ∙ ap (λ (x : Use). row (view.name-at (m .tags) (m .units) i) x) (put-back-read (m .units) (m .uses) i u whole hu hs seven)
+        ap (λ (w : Words). row (record { tag = getD (m .tags) i 0; words = w }) (use-at (units-put (m .units) i u) (uses-put (m .uses) i u) i)) (words-put (m .units) i u hu)
+        ∙ ap (λ (x : Use). row (name-at (m .tags) (m .units) i) x) (put-back-read (m .units) (m .uses) i u whole hu hs seven)

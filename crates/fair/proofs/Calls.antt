@@ -59,20 +59,19 @@ unfolding shed.judge
 judge-kept h m u cost t f =
     go (shed.judge-asked h (length (m .rows .tags)) (length (m .rows .units)) (length (m .rows .uses)) (length (m .counted)) cost t)
     (eqb (shed.judge-asked h (length (m .rows .tags)) (length (m .rows .units)) (length (m .rows .uses)) (length (m .counted)) cost t) 0)
-    (shed.is-unbounded (h .flow .rate)) (shed.is-misplaced (m .rows .tags) (m .rows .units) (h .tracked) (sender.name-of u)) f
+    (shed.is-unbounded (h .flow .rate)) f
   where
     taken : ltb 0 (shed.judge-number (shed.bounded h m u cost t .answer)) ≡ false
     taken = unfold shed.bounded in (verdict-taken (shed.judged h (m .rows) u (shed.numbers cost) (max t (h .flow .«at_ms»)) .verdict))
 
-    go : (n : ℕ) (a b c : Bool)
-        → ltb 0 (shed.judge-number (cond a (cond b (shed.judge-ends answer.Admitted h m) (cond c (shed.judge-ends (answer.Refused 9) h m) (shed.bounded h m u cost t))) (shed.judge-ends (answer.Refused n) h m) .answer)) ≡ true
-        → calls.state-of (cond a (cond b (shed.judge-ends answer.Admitted h m) (cond c (shed.judge-ends (answer.Refused 9) h m) (shed.bounded h m u cost t))) (shed.judge-ends (answer.Refused n) h m) .head)
-        (cond a (cond b (shed.judge-ends answer.Admitted h m) (cond c (shed.judge-ends (answer.Refused 9) h m) (shed.bounded h m u cost t))) (shed.judge-ends (answer.Refused n) h m) .memory)
+    go : (n : ℕ) (a b : Bool)
+        → ltb 0 (shed.judge-number (cond a (cond b (shed.judge-ends answer.Admitted h m) (shed.bounded h m u cost t)) (shed.judge-ends (answer.Refused n) h m) .answer)) ≡ true
+        → calls.state-of (cond a (cond b (shed.judge-ends answer.Admitted h m) (shed.bounded h m u cost t)) (shed.judge-ends (answer.Refused n) h m) .head)
+        (cond a (cond b (shed.judge-ends answer.Admitted h m) (shed.bounded h m u cost t)) (shed.judge-ends (answer.Refused n) h m) .memory)
         ≡ calls.state-of h m
-    go n true true c f = refl
-    go n true false true f = refl
-    go n true false false f = absurd (true≢false (sym f ∙ taken))
-    go n false b c f = refl
+    go n true true f = refl
+    go n true false f = absurd (true≢false (sym f ∙ taken))
+    go n false b f = refl
 
 abbrev cut-left : Memory → shed.Cut → State
 cut-left m j = calls.state-of (j .head) (memory (j .rows) (m .hist) (j .counted))
@@ -80,20 +79,18 @@ cut-left m j = calls.state-of (j .head) (memory (j .rows) (m .hist) (j .counted)
 abbrev cut-no : Shedder → Memory → ℕ → shed.Cut
 cut-no h m n = shed.cut-ends (done.Refused n) h (m .rows) (m .counted)
 
-cut-chosen : (h : Shedder) (m : Memory) (x y : shed.Cut) → ltb 0 (shed.cut-number (x .answer)) ≡ false → ltb 0 (shed.cut-number (y .answer)) ≡ false → (n : ℕ) (a b c : Bool)
-    → ltb 0 (shed.cut-number (cond a (cond b (cond c (cut-no h m 9) x) y) (cut-no h m n) .answer)) ≡ true → cut-left m (cond a (cond b (cond c (cut-no h m 9) x) y) (cut-no h m n)) ≡ calls.state-of h m
-cut-chosen h m x y e g n true true true f = refl
-cut-chosen h m x y e g n true true false f = absurd (true≢false (sym f ∙ e))
-cut-chosen h m x y e g n true false c f = absurd (true≢false (sym f ∙ g))
-cut-chosen h m x y e g n false b c f = refl
+cut-chosen : (h : Shedder) (m : Memory) (x y : shed.Cut) → ltb 0 (shed.cut-number (x .answer)) ≡ false → ltb 0 (shed.cut-number (y .answer)) ≡ false → (n : ℕ) (a b : Bool)
+    → ltb 0 (shed.cut-number (cond a (cond b x y) (cut-no h m n) .answer)) ≡ true → cut-left m (cond a (cond b x y) (cut-no h m n)) ≡ calls.state-of h m
+cut-chosen h m x y e g n true true f = absurd (true≢false (sym f ∙ e))
+cut-chosen h m x y e g n true false f = absurd (true≢false (sym f ∙ g))
+cut-chosen h m x y e g n false b f = refl
 
 cut-kept : (h : Shedder) (m : Memory) (u : unit.Unit) (c : Cause) (cost : List ℕ) → calls.refused (calls.state-of h m) (Cut u c cost) ≡ true → cut-left m (shed.cut h (m .rows) (m .counted) u c cost) ≡ calls.state-of h m
 unfolding shed.cut shed.noted shed.cut-number
 cut-kept h m u c cost f =
     cut-chosen h m (shed.cut-after (m .counted) u c cost (shed.handed-back (shed.kept-by h (m .rows)) u (shed.numbers cost))) (shed.cut-after (m .counted) u c cost (shed.kept-by h (m .rows))) refl refl
     (shed.cut-asked h (length (m .rows .tags)) (length (m .rows .units)) (length (m .rows .uses)) (length (m .counted)) cost)
-    (eqb (shed.cut-asked h (length (m .rows .tags)) (length (m .rows .units)) (length (m .rows .uses)) (length (m .counted)) cost) 0) (shed.hands-back (h .flow .rate) c)
-    (shed.is-misplaced (m .rows .tags) (m .rows .units) (h .tracked) (sender.name-of u)) f
+    (eqb (shed.cut-asked h (length (m .rows .tags)) (length (m .rows .units)) (length (m .rows .uses)) (length (m .counted)) cost) 0) (shed.hands-back (h .flow .rate) c) f
 
 -- ---- answers and verdicts
 if-same : (v : Verdict) (x : ℕ) → calls.if-admitted (shed.answer-of v) x ≡ cond (is-admitted v) x 0

@@ -112,14 +112,13 @@ module _ (room : ℕ) (rate : List ℕ) where
 abbrev cut-no : Shedder → Rows → List (List ℕ) → ℕ → shed.Cut
 cut-no h m k n = shed.cut-ends (done.Refused n) h m k
 
-chosen : (h : Shedder) (m : Rows) (k : List (List ℕ)) (n : ℕ) (to : shed.KeptBy → shed.Cut) (x y : shed.KeptBy) (a b c : Bool) → eqb n 0 ≡ a
-    → ltb 0 (shed.cut-number (cond a (cond b (cond c (cut-no h m k 9) (to x)) (to y)) (cut-no h m k n) .answer)) ≡ false
-    → (a ≡ true) × (cond a (cond b (cond c (cut-no h m k 9) (to x)) (to y)) (cut-no h m k n) ≡ to (cond b x y))
+chosen : (h : Shedder) (m : Rows) (k : List (List ℕ)) (n : ℕ) (to : shed.KeptBy → shed.Cut) (x y : shed.KeptBy) (a b : Bool) → eqb n 0 ≡ a
+    → ltb 0 (shed.cut-number (cond a (cond b (to x) (to y)) (cut-no h m k n) .answer)) ≡ false
+    → (a ≡ true) × (cond a (cond b (to x) (to y)) (cut-no h m k n) ≡ to (cond b x y))
 unfolding shed.cut-number
-chosen h m k n to x y true true true q f = absurd (true≢false f)
-chosen h m k n to x y true true false q f = (refl, refl)
-chosen h m k n to x y true false c q f = (refl, refl)
-chosen h m k n to x y false b c q f = absurd (true≢false (sym (eq-eqb n 0 (let z : n ≡ 0 = omega (arith, ltb-false 0 n f) in z)) ∙ q))
+chosen h m k n to x y true true q f = (refl, refl)
+chosen h m k n to x y true false q f = (refl, refl)
+chosen h m k n to x y false b q f = absurd (true≢false (sym (eq-eqb n 0 (let z : n ≡ 0 = omega (arith, ltb-false 0 n f) in z)) ∙ q))
 
 pub record Taken (h : Shedder) (m : Rows) (k : List (List ℕ)) (u : unit.Unit) (c : Cause) (cost : List ℕ) : Type 0 where
   pub asked : shed.cut-asked h (length (m .tags)) (length (m .units)) (length (m .uses)) (length k) cost ≡ 0
@@ -129,7 +128,7 @@ pub taken : (h : Shedder) (m : Rows) (k : List (List ℕ)) (u : unit.Unit) (c : 
 unfolding shed.cut
 taken h m k u c cost f =
     let n = shed.cut-asked h (length (m .tags)) (length (m .units)) (length (m .uses)) (length k) cost in
-    let r = chosen h m k n (shed.cut-after k u c cost) (shed.handed-back (shed.kept-by h m) u (shed.numbers cost)) (shed.kept-by h m) (eqb n 0) (shed.hands-back (h .flow .rate) c) (shed.is-misplaced (m .tags) (m .units) (h .tracked) (sender.name-of u)) refl f in
+    let r = chosen h m k n (shed.cut-after k u c cost) (shed.handed-back (shed.kept-by h m) u (shed.numbers cost)) (shed.kept-by h m) (eqb n 0) (shed.hands-back (h .flow .rate) c) refl f in
     record { asked = eqb-true n 0 (r .0); is = r .1 }
 
 pub cut-costs : (h : Shedder) (i u s k : ℕ) (cost : List ℕ) → shed.cut-asked h i u s k cost ≡ 0 → shed.costs-held cost ≡ true

@@ -304,20 +304,19 @@ pub record Taken (h : Shedder) (m : Memory) (u : unit.Unit) (cost : List ℕ) (t
   pub asked : shed.judge-asked h (length (m .rows .tags)) (length (m .rows .units)) (length (m .rows .uses)) (length (m .counted)) cost t ≡ 0
   pub is : shed.judge h m u cost t ≡ shed.bounded h m u cost t
 
-chosen : (h : Shedder) (m : Memory) (n : ℕ) (to : shed.Judged) (a b c : Bool) → eqb n 0 ≡ a → b ≡ false
-    → ltb 0 (shed.judge-number (cond a (cond b (shed.judge-ends answer.Admitted h m) (cond c (shed.judge-ends (answer.Refused 9) h m) to)) (shed.judge-ends (answer.Refused n) h m) .answer)) ≡ false
-    → (a ≡ true) × (cond a (cond b (shed.judge-ends answer.Admitted h m) (cond c (shed.judge-ends (answer.Refused 9) h m) to)) (shed.judge-ends (answer.Refused n) h m) ≡ to)
+chosen : (h : Shedder) (m : Memory) (n : ℕ) (to : shed.Judged) (a b : Bool) → eqb n 0 ≡ a → b ≡ false
+    → ltb 0 (shed.judge-number (cond a (cond b (shed.judge-ends answer.Admitted h m) to) (shed.judge-ends (answer.Refused n) h m) .answer)) ≡ false
+    → (a ≡ true) × (cond a (cond b (shed.judge-ends answer.Admitted h m) to) (shed.judge-ends (answer.Refused n) h m) ≡ to)
 unfolding shed.judge-number
-chosen h m n to true true c q e f = absurd (true≢false e)
-chosen h m n to true false true q e f = absurd (true≢false f)
-chosen h m n to true false false q e f = (refl, refl)
-chosen h m n to false b c q e f = absurd (true≢false (sym (eq-eqb n 0 (let z : n ≡ 0 = omega (arith, ltb-false 0 n f) in z)) ∙ q))
+chosen h m n to true true q e f = absurd (true≢false e)
+chosen h m n to true false q e f = (refl, refl)
+chosen h m n to false b q e f = absurd (true≢false (sym (eq-eqb n 0 (let z : n ≡ 0 = omega (arith, ltb-false 0 n f) in z)) ∙ q))
 
 pub taken : (h : Shedder) (m : Memory) (u : unit.Unit) (cost : List ℕ) (t : ℕ) → shed.is-unbounded (h .flow .rate) ≡ false → calls.refused (calls.state-of h m) (calls.Judge u cost t) ≡ false → Taken h m u cost t
 unfolding shed.judge
 taken h m u cost t unb f =
     let n = shed.judge-asked h (length (m .rows .tags)) (length (m .rows .units)) (length (m .rows .uses)) (length (m .counted)) cost t in
-    let r = chosen h m n (shed.bounded h m u cost t) (eqb n 0) (shed.is-unbounded (h .flow .rate)) (shed.is-misplaced (m .rows .tags) (m .rows .units) (h .tracked) (sender.name-of u)) refl unb f in
+    let r = chosen h m n (shed.bounded h m u cost t) (eqb n 0) (shed.is-unbounded (h .flow .rate)) refl unb f in
     record { asked = eqb-true n 0 (r .0); is = r .1 }
 
 -- question 5

@@ -83,25 +83,6 @@ memory-yes : (h : Shedder) (i u s k : ℕ) → i ≡ u + k → u ≡ h .«unit_r
 unfolding shed.memory-whole shed.tags-whole
 memory-yes h i u s k a b c d = rw (eq-eqb i (u + k) a, eq-eqb u (h .«unit_room») b, eq-eqb s (h .«unit_room») c, eq-eqb k (h .«counted_room») d)
 
--- ---- question 9: what is found is there
-first-holds : (p : ℕ → Bool) (n : ℕ) → store.first p n < n → p (store.first p n) ≡ true
-unfolding store.first
-first-holds p zero l = absurd (omega arith)
-first-holds p (suc n) l = go (store.first p n) (ltb (store.first p n) n) refl (p n) refl (first-holds p n) l
-  where
-    go : (f : ℕ) (b : Bool) → ltb f n ≡ b → (c : Bool) → p n ≡ c → (f < n → p f ≡ true) → cond b f (cond c n (suc n)) < suc n → p (cond b f (cond c n (suc n))) ≡ true
-    go f true e c g i l = i (ltb-true f n e)
-    go f false e true g i l = g
-    go f false e false g i l = absurd (omega arith)
-
-never-misplaced : (tags : List ℕ) (units : List (List ℕ)) (n : ℕ) (name : Name) → shed.is-misplaced tags units n name ≡ false
-unfolding shed.is-misplaced store.find
-never-misplaced tags units n name = go (ltb (store.first (store.is-at tags units name) n) n) refl
-  where
-    go : (b : Bool) → ltb (store.first (store.is-at tags units name) n) n ≡ b → cond b (cond (store.is-at tags units name (store.first (store.is-at tags units name) n)) false true) false ≡ false
-    go true e = rw (first-holds (store.is-at tags units name) n (ltb-true (store.first (store.is-at tags units name) n) n e))
-    go false e = refl
-
 -- ---- calls that pass the questions are not refused
 judge-asked-yes : (h : Shedder) (i u s k : ℕ) (cost : List ℕ) (t : ℕ) → shed.head-whole h ≡ true → shed.memory-whole h i u s k ≡ true → shed.costs-held cost ≡ true → shed.is-stamp t ≡ true → shed.judge-asked h i u s k cost t ≡ 0
 unfolding shed.judge-asked
@@ -114,7 +95,7 @@ cut-asked-yes h i u s k cost a b c = rw (a, b, c)
 judge-open : (h : Shedder) (m : Memory) (u : unit.Unit) (cost : List ℕ) (t : ℕ) → shed.judge-asked h (length (m .rows .tags)) (length (m .rows .units)) (length (m .rows .uses)) (length (m .counted)) cost t ≡ 0 → shed.is-unbounded (h .flow .rate) ≡ false
     → shed.judge h m u cost t ≡ shed.bounded h m u cost t
 unfolding shed.judge
-judge-open h m u cost t e f = rw (e, f, never-misplaced (m .rows .tags) (m .rows .units) (h .tracked) (sender.name-of u))
+judge-open h m u cost t e f = rw (e, f)
 
 bounded-taken : (h : Shedder) (m : Memory) (u : unit.Unit) (cost : List ℕ) (t : ℕ) → ltb 0 (shed.judge-number (shed.bounded h m u cost t .answer)) ≡ false
 unfolding shed.bounded
@@ -126,7 +107,7 @@ cut-picked false x y p q = q
 
 cut-open : (h : Shedder) (m : Memory) (u : unit.Unit) (c : Cause) (cost : List ℕ) → shed.cut-asked h (length (m .rows .tags)) (length (m .rows .units)) (length (m .rows .uses)) (length (m .counted)) cost ≡ 0 → calls.refused (calls.state-of h m) (Cut u c cost) ≡ false
 unfolding shed.cut shed.noted shed.cut-number
-cut-open h m u c cost e = rw (e, never-misplaced (m .rows .tags) (m .rows .units) (h .tracked) (sender.name-of u))
+cut-open h m u c cost e = rw e
     (cut-picked (shed.hands-back (h .flow .rate) c) (shed.cut-after (m .counted) u c cost (shed.handed-back (shed.kept-by h (m .rows)) u (shed.numbers cost))) (shed.cut-after (m .counted) u c cost (shed.kept-by h (m .rows))) refl refl)
 
 -- ---- every list

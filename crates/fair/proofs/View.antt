@@ -13,7 +13,8 @@ use Rattle.sender.specs.declared.Name as sender-name
 use Rattle.sender.specs.Sender as sender
 use Rattle.sender.specs.declared.Unit as unit
 use Rattle.store.specs.Store as store
-use Rattle.store.specs.Store.{Rows}
+use Rattle.store.specs.Store.{Rows, name-at}
+use Rattle.store.proofs.Names as stored
 use Rattle.fair.specs.Store as model
 use Rattle.fair.specs.Calls.{same-name}
 
@@ -57,23 +58,8 @@ true-of : (b : Bool) → T b → b ≡ true
 true-of true t = refl
 true-of false t = absurd t
 
-words-ext : (a b c d e a' b' c' d' e' : ℕ) → a ≡ a' → b ≡ b' → c ≡ c' → d ≡ d' → e ≡ e' → _≡_ {A = Words} (record { kind = a; a = b; b = c; c = d; d = e }) (record { kind = a'; a = b'; b = c'; c = d'; d = e' })
-words-ext a b c d e a' b' c' d' e' p q r s t = cc
-
-pair-ext : (a a' : ℕ) (w w' : Words) → a ≡ a' → w ≡ w' → _≡_ {A = sender-name.Name} (record { tag = a; words = w }) (record { tag = a'; words = w' })
-pair-ext a a' w w' p q = cc
-
 name-ext : (a a' : Bool) (w w' : sender-name.Name) → a ≡ a' → w ≡ w' → _≡_ {A = Name} (record { overflow = a; name = w }) (record { overflow = a'; name = w' })
 name-ext a a' w w' p q = cc
-
-words-same : (v w : Words) → store.same v w ≡ true → v ≡ w
-unfolding store.same
-words-same v w e =
-    let a = both (eqb (v .kind) (w .kind)) _ e in
-    let b = both (eqb (v .a) (w .a)) _ (a .1) in
-    let c = both (eqb (v .b) (w .b)) _ (b .1) in
-    let d = both (eqb (v .c) (w .c)) _ (c .1) in
-    words-ext (v .kind) (v .a) (v .b) (v .c) (v .d) (w .kind) (w .a) (w .b) (w .c) (w .d) (eqb-true (v .kind) (w .kind) (a .0)) (eqb-true (v .a) (w .a) (b .0)) (eqb-true (v .b) (w .b) (c .0)) (eqb-true (v .c) (w .c) (d .0)) (eqb-true (v .d) (w .d) (d .1))
 
 words-self : (v : Words) → store.same v v ≡ true
 unfolding store.same
@@ -82,7 +68,7 @@ words-self v = simp (eq-eqb (v .kind) (v .kind) refl, eq-eqb (v .a) (v .a) refl,
 pair-same : (v w : sender-name.Name) → same-name v w ≡ true → v ≡ w
 pair-same v w e =
     let a = both (eqb (w .tag) (v .tag)) _ e in
-    pair-ext (v .tag) (w .tag) (v .words) (w .words) (sym (eqb-true (w .tag) (v .tag) (a .0))) (sym (words-same (w .words) (v .words) (a .1)))
+    stored.name-ext (v .tag) (w .tag) (v .words) (w .words) (sym (eqb-true (w .tag) (v .tag) (a .0))) (sym (stored.words-same (w .words) (v .words) (a .1)))
 
 pair-self : (v : sender-name.Name) → same-name v v ≡ true
 pair-self v = simp (eq-eqb (v .tag) (v .tag) refl, words-self (v .words))
@@ -94,10 +80,6 @@ same-is u v t =
 
 pub same-self : (u : Name) → T (same u u)
 same-self u = subst T (sym (ap (λ (b : Bool). cond b (same-name (u .name) (u .name)) false) (alike-self (u .overflow)) ∙ pair-self (u .name))) tt
-
--- the words of a row of the store
-abbrev pub name-at : List ℕ → List (List ℕ) → ℕ → sender-name.Name
-name-at tags units i = record { tag = getD tags i 0; words = store.words-at units i }
 
 -- ---- rows
 module _ (room : ℕ) where

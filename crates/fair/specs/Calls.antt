@@ -284,7 +284,7 @@ pub record Demand (rate ceiling : List ℕ) (first : State) : Type 0 where
   -- whatever calls were made, each fill has an exact value
   pub fill : (h : List Call) (d : ℕ) → d < dims → Valued (at (fills (state first h)) d)
 
--- ---- AND IT LASTS: no list of calls leaves head or memory unfit, so questions 3, 4 and 9 are never answered no: a judgement is refused by its own cost or stamp alone, a cut by its cost, a reading never
+-- ---- AND IT LASTS: no list of calls leaves head or memory unfit, so questions 3 and 4 are never answered no: a judgement is refused by its own cost or stamp alone, a cut by its cost, a reading never
 pub record Lasting (first : State) : Type 0 where
   pub judge : (h : List Call) (u : unit.Unit) (cost : List ℕ) (t : ℕ) → shed.costs-held cost ≡ true → shed.is-stamp t ≡ true → refused (state first h) (Judge u cost t) ≡ false
   pub cut : (h : List Call) (u : unit.Unit) (c : Cause) (cost : List ℕ) → shed.costs-held cost ≡ true → refused (state first h) (Cut u c cost) ≡ false

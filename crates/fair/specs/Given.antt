@@ -11,7 +11,7 @@ unfoldable pub use Rattle.scan_trim.specs.Trimming.{opens, levels, trimmed}
 pub use Rattle.scan.specs.Scanning.{Scanning, scanning, Started, started, ended-at, scanned-from}
 unfoldable pub use Rattle.scan.specs.Scanning.{visited, visit, again, ended, opened, begun, scanned}
 pub use Rattle.store_entry.specs.Entering.{Entered, entered, place, headed}
-unfoldable pub use Rattle.store_entry.specs.Entering.{is-misplaced, entry, used-at, put-back}
+unfoldable pub use Rattle.store_entry.specs.Entering.{entry, used-at, put-back}
 pub use Rattle.cut_counts.specs.Counting.{Tally, tally, source-tags}
 unfoldable pub use Rattle.cut_counts.specs.Counting.{cause-of, added, tallied, count-verdict}
 pub use Rattle.judge.specs.Judging.{Through, passing, outcome-at, Memory, memory, Judged, judge-ends}

@@ -19,7 +19,7 @@ use Rattle.head.specs.declared.Answer.the-variants as answer
 use Rattle.head.specs.Answers.{judge-number}
 use Rattle.head.specs.Questions.{is-unbounded, judge-asked}
 use Rattle.head.proofs.Asked.{asked-ready}
-use Rattle.store_entry.specs.Entering.{entry, entered, place, is-misplaced}
+use Rattle.store_entry.specs.Entering.{entry, entered, place}
 use Rattle.judge.specs.Judging as judging
 use Rattle.judge.specs.Judging.{Memory, Judged, judge-ends, bounded}
 use Rattle.fair.specs.Calls as calls
@@ -90,8 +90,7 @@ asked : (h : Shedder) (m : Memory) (u : unit.Unit) (cost : List ℕ) (t : ℕ) �
 unfolding judging.judge
 asked h m u cost t f =
     asked-by h m (judge-asked h (length (m .rows .tags)) (length (m .rows .units)) (length (m .rows .uses)) (length (m .counted)) cost t) _
-    (cond (is-unbounded (h .flow .rate)) (judge-ends answer.Admitted h m)
-    (cond (is-misplaced (m .rows .tags) (m .rows .units) (h .tracked) (sender.name-of u)) (judge-ends (answer.Refused 9) h m) (bounded h m u cost t)))
+    (cond (is-unbounded (h .flow .rate)) (judge-ends answer.Admitted h m) (bounded h m u cost t))
     refl f
 
 pub watched-is : (h : Shedder) (m : Memory) (u : unit.Unit) (cost : List ℕ) (t : ℕ) (w : unit.Unit) → judge-number (judging.judge h m u cost t .answer) ≡ 0

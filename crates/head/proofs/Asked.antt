@@ -21,7 +21,7 @@ tables-of r n e =
 
 module _ (h : Shedder) where
   module _ (i u s k : ℕ) where
-    memory-of : memory-whole h i u s k ≡ true → (i ≡ h .«unit_room» + k) × (u ≡ h .«unit_room») × (s ≡ h .«unit_room») × (k ≡ h .«counted_room»)
+    pub memory-of : memory-whole h i u s k ≡ true → (i ≡ h .«unit_room» + k) × (u ≡ h .«unit_room») × (s ≡ h .«unit_room») × (k ≡ h .«counted_room»)
     unfolding memory-whole tags-whole
     memory-of e =
         let a = yes-yes (eqb i (u + k)) _ e in

@@ -36,7 +36,6 @@ use Rattle.head.proofs.Whole.{whole-of}
 use Rattle.scan_trim.specs.Laws.{Rates, Trim, Levels}
 use Rattle.scan.specs.Scanning.{scanning}
 use Rattle.scan.proofs.Laws as scans
-use Rattle.store_entry.specs.Entering.{is-misplaced}
 use Rattle.cut_counts.specs.Counting.{Tally, tally, added, cause-of, tallied, count-verdict}
 use Rattle.judge.specs.Judging.{flowed, judged, Memory, Judged, bounded, judge}
 use Rattle.cut.specs.Cutting.{KeptBy, kept-by, hands-back, flowed-back, handed-back, Cut, noted, cut-after, cut}
@@ -159,8 +158,7 @@ judge-in : (h : Shedder) (m : Memory) (u : Unit) (cost : List ℕ) (stamp : ℕ)
 unfolding judge Held
 judge-in h m u cost stamp w p =
     cond-judged (eqb (judge-asked h (length (m .rows .tags)) (length (m .rows .units)) (length (m .rows .uses)) (length (m .counted)) cost stamp) 0) _ _
-    (cond-judged (is-unbounded (h .flow .rate)) _ _ p
-    (cond-judged (is-misplaced (m .rows .tags) (m .rows .units) (h .tracked) (name-of u)) _ _ p (bounded-in h m u cost stamp (rates-of h w, p)))) p
+    (cond-judged (is-unbounded (h .flow .rate)) _ _ p (bounded-in h m u cost stamp (rates-of h w, p))) p
 
 -- ---- a cut
 handed-in : (h : Shedder) (m : Rows) (u : Unit) (cost : List Float) → InRange h → InRange (handed-back (kept-by h m) u cost .head)
@@ -179,8 +177,7 @@ cut-in : (h : Shedder) (m : Rows) (k : List (List ℕ)) (u : Unit) (c : Cause) (
 unfolding cut
 cut-in h m k u c cost p =
     cond-cut (eqb (cut-asked h (length (m .tags)) (length (m .units)) (length (m .uses)) (length k) cost) 0) _ _
-    (cond-cut (hands-back (h .flow .rate) c) _ _
-    (cond-cut (is-misplaced (m .tags) (m .units) (h .tracked) (name-of u)) _ _ p (after-in (handed-back (kept-by h m) u (numbers cost)) k u c cost (handed-in h m u (numbers cost) p)))
+    (cond-cut (hands-back (h .flow .rate) c) _ _ (after-in (handed-back (kept-by h m) u (numbers cost)) k u c cost (handed-in h m u (numbers cost) p))
     (after-in (kept-by h m) k u c cost p)) p
 
 pub ranges : Ranges

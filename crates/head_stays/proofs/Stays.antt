@@ -25,7 +25,7 @@ use Rattle.head.specs.Questions.{is-unbounded, head-whole, judge-asked, cut-ask
 use Rattle.head.specs.Readings.{index-of}
 use Rattle.head.proofs.Asked.{asked-ready}
 use Rattle.scan.specs.Scanning.{scanning}
-use Rattle.store_entry.specs.Entering.{is-misplaced, Entered, entry}
+use Rattle.store_entry.specs.Entering.{Entered, entry}
 use Rattle.cut_counts.specs.Counting.{Tally, tally, source-tags, added, cause-of, tallied, count-verdict}
 use Rattle.judge.specs.Judging.{flowed, judged, Memory, Judged, bounded, judge}
 use Rattle.cut.specs.Cutting.{KeptBy, kept-by, hands-back, flowed-back, handed-back, Cut, noted, cut-after, cut}
@@ -165,9 +165,8 @@ judge-keeps h m u cost stamp w =
     cond-judged (eqb a 0) _ _ (λ e.
     let r = asked-ready h (length (m .rows .tags)) (length (m .rows .units)) (length (m .rows .uses)) (length (m .counted)) cost stamp (eqb-true a 0 e) in
     cond-judged (is-unbounded (h .flow .rate)) _ _ (λ y. w)
-    (cond-judged (is-misplaced (m .rows .tags) (m .rows .units) (h .tracked) (name-of u)) _ _ (λ y. w)
     (whole-is (bounded h m u cost stamp .head) (bounded-whole h m u cost stamp (whole-of h w) (r .stamp-held)
-    (memory-counted h (length (m .rows .tags)) (length (m .rows .units)) (length (m .rows .uses)) (length (m .counted)) (judge-memory h _ _ _ _ cost stamp (eqb-true a 0 e))))))) w
+    (memory-counted h (length (m .rows .tags)) (length (m .rows .units)) (length (m .rows .uses)) (length (m .counted)) (judge-memory h _ _ _ _ cost stamp (eqb-true a 0 e)))))) w
 
 -- ---- a cut
 after-whole : (s : KeptBy) (k : List (List ℕ)) (u : Unit) (c : Cause) (cost : List ℕ) → Whole (s .head) → length k ≡ s .head .«counted_room» → head-whole (cut-after k u c cost s .head) ≡ true
@@ -189,7 +188,6 @@ cut-keeps h m k u c cost w =
     cond-cut (eqb a 0) _ _ (λ e.
     let room : length k ≡ h .«counted_room» = memory-counted h (length (m .tags)) (length (m .units)) (length (m .uses)) (length k) (cut-memory h _ _ _ _ cost (eqb-true a 0 e)) in
     cond-cut (hands-back (h .flow .rate) c) _ _ (λ y.
-    cond-cut (is-misplaced (m .tags) (m .units) (h .tracked) (name-of u)) _ _ (λ z. w)
     (after-whole (handed-back (kept-by h m) u (numbers cost)) k u c cost (handed-whole h m u (numbers cost) (whole-of h w)) (room ∙ sym (handed-room h m u (numbers cost)))))
     (after-whole (kept-by h m) k u c cost (whole-of h w) room)) w
 

@@ -27,7 +27,7 @@ use Rattle.judge.specs.declared.Passed.{Passed}
 use Rattle.judge.specs.declared.Judgement.{Judgement}
 use Rattle.head.specs.Questions.{is-unbounded, judge-asked}
 use Rattle.scan.specs.Scanning.{Scanning, scanning, scanned}
-use Rattle.store_entry.specs.Entering.{is-misplaced, Entered, entry, used-at, Back, put-back, headed}
+use Rattle.store_entry.specs.Entering.{Entered, entry, used-at, Back, put-back, headed}
 use Rattle.cut_counts.specs.Counting.{Tally, tally, count-verdict}
 
 -- what was admitted so far, and this cost
@@ -123,10 +123,9 @@ bounded-passed m u cost clock p = bounded-counted (m .hist) clock p (count-verdi
 unfoldable pub bounded : Shedder → Memory → unit.Unit → List ℕ → ℕ → Judged
 bounded h m u cost stamp = bounded-passed m u cost (max stamp (h .flow .«at_ms»)) (judged h (m .rows) u (flow.numbers cost) (max stamp (h .flow .«at_ms»)))
 
--- THE JUDGEMENT: the first question answered no gives its number and nothing changes; an unbounded relay admits, nothing changes, and 9 is not asked, since no record is sought
+-- THE JUDGEMENT: the first question answered no gives its number and nothing changes; an unbounded relay admits, and nothing changes
 unfoldable pub judge : Shedder → Memory → unit.Unit → List ℕ → ℕ → Judged
 judge h m u cost stamp =
     cond (eqb (judge-asked h (length (m .rows .tags)) (length (m .rows .units)) (length (m .rows .uses)) (length (m .counted)) cost stamp) 0)
-    (cond (is-unbounded (h .flow .rate)) (judge-ends answer.Admitted h m)
-    (cond (is-misplaced (m .rows .tags) (m .rows .units) (h .tracked) (sender.name-of u)) (judge-ends (answer.Refused 9) h m) (bounded h m u cost stamp)))
+    (cond (is-unbounded (h .flow .rate)) (judge-ends answer.Admitted h m) (bounded h m u cost stamp))
     (judge-ends (answer.Refused (judge-asked h (length (m .rows .tags)) (length (m .rows .units)) (length (m .rows .uses)) (length (m .counted)) cost stamp)) h m)

@@ -269,12 +269,6 @@ pub fn judge(
     let hash = sender::hash_of(unit);
     let name = sender::name_by_hash(unit, hash);
     let i = store_search::find(tags, units, head.tracked, name);
-    if store_entry::is_misplaced(tags, units, head.tracked, name, i) {
-        return Judgement {
-            answer: Answer::Refused(9),
-            head,
-        };
-    }
     bounded(
         head,
         tags,

@@ -19,7 +19,6 @@ use Rattle.head.specs.Questions as asked
 use Rattle.head.specs.Start as starts
 use Rattle.head.specs.Readings as readings
 use Rattle.head.specs.Readings.{index-of}
-use Rattle.store_entry.specs.Entering.{is-misplaced}
 use Rattle.cut_counts.specs.Counting as counting
 use Rattle.judge.specs.Judging as judging
 use Rattle.judge.specs.Judging.{Memory, judge-ends}
@@ -29,7 +28,7 @@ use Rattle.report.specs.Report as reports
 use Rattle.meaning.specs.State.{after, ask}
 use Rattle.meaning.specs.Page as page
 use Rattle.meaning.specs.Agrees.{of, started, judged, cut, start-with, report-with, front-with, asked-with, Agrees}
-use Rattle.meaning.proofs.Asked.{unbounded-is, rates-is, stamp-is, costs-is, head-is, memory-is, sizes-is, placed-is}
+use Rattle.meaning.proofs.Asked.{unbounded-is, rates-is, stamp-is, costs-is, head-is, memory-is, sizes-is}
 use Rattle.meaning.proofs.Scanned.{scanned-is}
 use Rattle.meaning.proofs.Judged.{judged-is, passed, counted-is, told-is, tallied, tally-of, handed-is, kept}
 
@@ -61,18 +60,17 @@ judge-is : (h : Shedder) (m : Memory) (u : Unit) (cost : List ℕ) (stamp : ℕ)
 unfolding page.judge judging.judge asked.judge-asked
 judge-is h m u cost stamp =
     let s = of h m in
-    rw (head-is h, memory-is s, costs-is cost, stamp-is stamp, unbounded-is (h .flow .rate), placed-is s u, bounded-is h m u cost stamp)
-    (go (asked.head-whole h) (memory-whole h m) (asked.costs-held cost) (asked.is-stamp stamp) (asked.is-unbounded (h .flow .rate)) (is-misplaced (m .rows .tags) (m .rows .units) (h .tracked) (name-of u)) (judging.bounded h m u cost stamp))
+    rw (head-is h, memory-is s, costs-is cost, stamp-is stamp, unbounded-is (h .flow .rate), bounded-is h m u cost stamp)
+    (go (asked.head-whole h) (memory-whole h m) (asked.costs-held cost) (asked.is-stamp stamp) (asked.is-unbounded (h .flow .rate)) (judging.bounded h m u cost stamp))
   where
-    go : (a b c d e f : Bool) (x : judging.Judged) → ask ((3, a) ∷ (4, b) ∷ (5, c) ∷ (6, d) ∷ (9, e || not f) ∷ []) (λ n. after (answer.Refused n) (of h m)) (cond e (after answer.Admitted (of h m)) (judged x))
-        ≡ judged (cond (eqb (cond a (cond b (cond c (cond d 0 6) 5) 4) 3) 0) (cond e (judge-ends answer.Admitted h m) (cond f (judge-ends (answer.Refused 9) h m) x)) (judge-ends (answer.Refused (cond a (cond b (cond c (cond d 0 6) 5) 4) 3)) h m))
-    go true true true true true f x = refl
-    go true true true true false true x = refl
-    go true true true true false false x = refl
-    go true true true false e f x = refl
-    go true true false d e f x = refl
-    go true false c d e f x = refl
-    go false b c d e f x = refl
+    go : (a b c d e : Bool) (x : judging.Judged) → ask ((3, a) ∷ (4, b) ∷ (5, c) ∷ (6, d) ∷ []) (λ n. after (answer.Refused n) (of h m)) (cond e (after answer.Admitted (of h m)) (judged x))
+        ≡ judged (cond (eqb (cond a (cond b (cond c (cond d 0 6) 5) 4) 3) 0) (cond e (judge-ends answer.Admitted h m) x) (judge-ends (answer.Refused (cond a (cond b (cond c (cond d 0 6) 5) 4) 3)) h m))
+    go true true true true true x = refl
+    go true true true true false x = refl
+    go true true true false e x = refl
+    go true true false d e x = refl
+    go true false c d e x = refl
+    go false b c d e x = refl
 
 -- ---- cut
 hands-is : (rate : List ℕ) (c : Cause) → (not (asked.is-unbounded rate) && eqb (index-of c) 0) ≡ cutting.hands-back rate c
@@ -87,8 +85,8 @@ cut-is : (h : Shedder) (m : Memory) (u : Unit) (c : Cause) (cost : List ℕ) →
 unfolding page.cut cutting.cut cutting.noted asked.cut-asked
 cut-is h m u c cost =
     let s = of h m in
-    rw (head-is h, memory-is s, costs-is cost, unbounded-is (h .flow .rate), hands-is (h .flow .rate) c, placed-is s u, handed-is s u (numbers cost))
-    (go (asked.head-whole h) (memory-whole h m) (asked.costs-held cost) (cutting.hands-back (h .flow .rate) c) (is-misplaced (m .rows .tags) (m .rows .units) (h .tracked) (name-of u)))
+    rw (head-is h, memory-is s, costs-is cost, unbounded-is (h .flow .rate), hands-is (h .flow .rate) c, handed-is s u (numbers cost))
+    (go (asked.head-whole h) (memory-whole h m) (asked.costs-held cost) (cutting.hands-back (h .flow .rate) c))
   where
     back : cutting.KeptBy
     back = cutting.handed-back (cutting.kept-by h (m .rows)) u (numbers cost)
@@ -99,16 +97,15 @@ cut-is h m u c cost =
     one : (k : cutting.KeptBy) → after done.Counted (page.counted (kept (of h m) k) (name-of u) (index-of c) (getD cost 0 0)) ≡ cut (m .hist) (counted k)
     one k = rw (counted-is (kept (of h m) k) (name-of u) (index-of c) (getD cost 0 0)) refl
 
-    go : (a b c′ e f : Bool) → ask ((3, a) ∷ (4, b) ∷ (5, c′) ∷ (9, not e || not f) ∷ []) (λ n. after (done.Refused n) (of h m)) (after done.Counted (page.counted (cond e (kept (of h m) back) (of h m)) (name-of u) (index-of c) (getD cost 0 0)))
+    go : (a b c′ e : Bool) → ask ((3, a) ∷ (4, b) ∷ (5, c′) ∷ []) (λ n. after (done.Refused n) (of h m)) (after done.Counted (page.counted (cond e (kept (of h m) back) (of h m)) (name-of u) (index-of c) (getD cost 0 0)))
         ≡ cut (m .hist) (cond (eqb (cond a (cond b (cond c′ 0 5) 4) 3) 0)
-        (cond e (cond f (cutting.cut-ends (done.Refused 9) h (m .rows) (m .counted)) (counted back)) (counted (cutting.kept-by h (m .rows))))
+        (cond e (counted back) (counted (cutting.kept-by h (m .rows))))
         (cutting.cut-ends (done.Refused (cond a (cond b (cond c′ 0 5) 4) 3)) h (m .rows) (m .counted)))
-    go true true true true true = refl
-    go true true true true false = one back
-    go true true true false f = one (cutting.kept-by h (m .rows))
-    go true true false e f = refl
-    go true false c′ e f = refl
-    go false b c′ e f = refl
+    go true true true true = one back
+    go true true true false = one (cutting.kept-by h (m .rows))
+    go true true false e = refl
+    go true false c′ e = refl
+    go false b c′ e = refl
 
 -- ---- report
 module _ (h : Shedder) (m : Memory) (out : List ℕ) where

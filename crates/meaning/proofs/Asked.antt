@@ -8,11 +8,7 @@ use native.Mathlib.Decide.{decLe}
 use lib.Dec.{eqb, leb, ltb, leb·zero}
 use lib.ListN.{length}
 use borrow.Author.Tests.{lt-ltb, le-ltb, le-leb, lt-leb, eqb-true}
-use Rattle.store.specs.Store as store
-use Rattle.sender.specs.declared.Unit.{Unit}
-use Rattle.sender.specs.Sender.{name-of}
 use Rattle.head.specs.Questions as asked
-use Rattle.store_entry.specs.Entering as entering
 use Rattle.meaning.specs.State.{State, Shedder}
 use Rattle.meaning.specs.Page as page
 
@@ -84,15 +80,3 @@ kept-one c = elim (decLe 2 c) [ yes h ↦ rw (lt-ltb 0 c (omega (arith, h)), le-
 pub sizes-is : (s : State) → (page.records-whole s && page.rooms-whole (length (s .rows .units)) (length (s .counted))) ≡ asked.sizes-whole (length (s .rows .tags)) (length (s .rows .units)) (length (s .rows .uses)) (length (s .counted))
 unfolding page.records-whole page.rooms-whole asked.sizes-whole asked.tags-whole asked.rooms-whole
 sizes-is s = simp (below-is, leb·zero, and-back, and-assoc, kept-one)
-
-pub placed-is : (s : State) (u : Unit) → page.is-placed s u ≡ not (entering.is-misplaced (s .rows .tags) (s .rows .units) (s .head .tracked) (name-of u))
-unfolding page.is-placed entering.is-misplaced
-placed-is s u = go (ltb i (s .head .tracked)) (store.is-at (s .rows .tags) (s .rows .units) (name-of u) i)
-  where
-    i : ℕ
-    i = store.find (s .rows .tags) (s .rows .units) (name-of u) (s .head .tracked)
-
-    go : (a b : Bool) → (not a || b) ≡ not (cond a (cond b false true) false)
-    go true true = refl
-    go true false = refl
-    go false b = refl

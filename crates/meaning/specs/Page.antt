@@ -134,12 +134,6 @@ memory-whole s = records-whole s && length (s .rows .units) =? s .head .«unit_r
 unfoldable pub costs-held : (cost : List ℕ) → Bool
 costs-held cost = all (λ d. cost # d <=? «COST_MOST») dims
 
--- 9: the record found holds the unit; where none is found there is nothing to ask
-unfoldable pub is-placed : State → Unit → Bool
-is-placed s u =
-    let i = store.find (s .rows .tags) (s .rows .units) (name-of u) (s .head .tracked) in
-    not (i <? s .head .tracked) || store.is-at (s .rows .tags) (s .rows .units) (name-of u) i
-
 -- ==== Start: 1, 2
 -- a full bucket: burst is the largest of the rate, the ceiling up to 2^40, and 1
 unfoldable pub opened : (rate ceiling : ℕ) → Bucket
@@ -291,7 +285,7 @@ scanned s clock =
     let twice = cond (runs once) (visit once) once in
     cond (runs begun) (cond (runs twice) twice (trimmed twice)) begun
 
--- ==== Judge: 3, 4, 5, 6, 9
+-- ==== Judge: 3, 4, 5, 6
 -- the clock never goes back; the verdict, the count of a cut, the scan
 unfoldable pub bounded : State → Unit → (cost : List ℕ) (stamp : ℕ) → After Answer
 bounded s u cost stamp =
@@ -304,11 +298,11 @@ bounded s u cost stamp =
 unfoldable pub judge : State → Unit → (cost : List ℕ) (stamp : ℕ) → After Answer
 judge s u cost stamp =
     let free = is-unbounded (s .head .flow .rate) in
-    ask ((3, head-whole (s .head)) ∷ (4, memory-whole s) ∷ (5, costs-held cost) ∷ (6, is-stamp stamp) ∷ (9, free || is-placed s u) ∷ [])
+    ask ((3, head-whole (s .head)) ∷ (4, memory-whole s) ∷ (5, costs-held cost) ∷ (6, is-stamp stamp) ∷ [])
     (λ n. after (answer.Refused n) s)
     (cond free (after answer.Admitted s) (bounded s u cost stamp))
 
--- ==== Cut: 3, 4, 5, 9 (document 01: cuts and report, `cut`)
+-- ==== Cut: 3, 4, 5 (document 01: cuts and report, `cut`)
 -- the whole cost back: tokens up to the burst, admitted and attempted down to 0, credit without a cap; a record added for it is fresh, stamped with the clock
 unfoldable pub handed-back : State → Unit → (cost : List Float) → State
 handed-back s u cost =
@@ -327,7 +321,7 @@ unfoldable pub cut : State → Unit → Cause → (cost : List ℕ) → After Do
 cut s u c cost =
     let hands = not (is-unbounded (s .head .flow .rate)) && index-of c =? 0 in
     let back = cond hands (handed-back s u (numbers cost)) s in
-    ask ((3, head-whole (s .head)) ∷ (4, memory-whole s) ∷ (5, costs-held cost) ∷ (9, not hands || is-placed s u) ∷ [])
+    ask ((3, head-whole (s .head)) ∷ (4, memory-whole s) ∷ (5, costs-held cost) ∷ [])
     (λ n. after (done.Refused n) s)
     (after done.Counted (counted back (name-of u) (index-of c) (cost # 0)))
 

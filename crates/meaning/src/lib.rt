@@ -1,1 +1,1 @@
-// No code: what each call means, on one page (specs/Page), and that the contracts of the program say the same (specs/Agrees).
+// No code: what each call means, on one page (specs/Page), that the contracts of the program say the same (specs/Agrees), and what follows (specs/Named, Numbered).

@@ -50,6 +50,10 @@ words-at units i = record {
   d = getD (unit-row units i) 4 0;
 }
 
+-- the name that a record holds
+abbrev pub name-at : List ℕ → List (List ℕ) → ℕ → Name
+name-at tags units i = record { tag = getD tags i 0; words = words-at units i }
+
 unfoldable pub stamp-at : List (List ℕ) → ℕ → ℕ
 stamp-at units i = getD (unit-row units i) 5 0
 

@@ -1,3 +1,3 @@
--- Nine: question 9 is never answered no. Names: a unit's name has its words.
-pub mod Nine
+-- Own: the unit is in its record. Names: a unit's name has its words.
+pub mod Own
 pub mod Names

@@ -1,7 +1,7 @@
--- The record that a call uses: found, added, or overflow's; read and put back. Question 9. Definitions only.
+-- The record that a call uses: found, added, or overflow's; read and put back. Definitions only.
 -- Definitions are shut (`unfoldable`): a proof opens the one that it is about.
 use Prim.Native.Nat.{ℕ, _+_}
-use mathlib.Core.Bool.{Bool, true, false, cond}
+use mathlib.Core.Bool.{cond}
 use mathlib.Core.List.{List}
 use lib.Dec.{ltb}
 use lib.ListN.{length}
@@ -9,18 +9,12 @@ use lib.Ieee.{Float}
 use Rattle.flow.specs.Flow as flow
 use Rattle.flow.specs.declared.Use.{Use}
 use Rattle.sender.specs.declared.Unit as unit
-use Rattle.sender.specs.declared.Name.{Name}
 use Rattle.sender.specs.Sender as sender
 use Rattle.store.specs.Store as store
 use Rattle.store.specs.Store.{Rows}
 use Rattle.head.specs.declared.Flow.{Flow}
 use Rattle.head.specs.declared.Shedder.{Shedder}
 use Rattle.store_entry.specs.declared.Place.{Place}
-
--- question 9 answered no: one of the n records was found for the name, and is another's
-unfoldable pub is-misplaced : List ℕ → List (List ℕ) → ℕ → Name → Bool
-is-misplaced tags units n name =
-    cond (ltb (store.find tags units name n) n) (cond (store.is-at tags units name (store.find tags units name n)) false true) false
 
 -- a place, and the rows
 pub record Entered : Type 0 where

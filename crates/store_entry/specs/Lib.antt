@@ -1,1 +1,3 @@
+-- Entering: the record that a call uses. Own: it is the unit's.
 pub mod Entering
+pub mod Own

@@ -11,22 +11,6 @@ use sender::Unit;
 use store::UnitRow;
 use store::UseRow;
 
-// Question 9: the record found for the unit, where there is one, is the unit's. The search was made, and gave i.
-pub fn is_misplaced(tags: &[u16], units: &[UnitRow], n: usize, name: Name, i: usize) -> bool
-    requires { ⌜ n ≤ length (now tags) ⌝ }
-    requires { ⌜ n ≤ length (now units) ⌝ }
-    requires { ⌜ i ≡ store.find (now tags) (now units) name n ⌝ }
-    ensures { λ r. ⌜ r ≡ entering.is-misplaced (now (tags .entry)) (now (units .entry)) n name ⌝ }
-{
-    if i < n {
-        if store_search::is_at(tags, units, i, name) {
-            return false;
-        }
-        return true;
-    }
-    false
-}
-
 // Where a unit's record is, room for overflow's; and how many there are then.
 pub struct Place {
     pub at: usize,

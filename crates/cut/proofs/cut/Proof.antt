@@ -1,8 +1,5 @@
 use mathlib.Core.Path.{refl, sym, ap, _∙_}
 use borrow.Author.Tests.{eq-eqb, ne-eqb}
-use mathlib.Core.Bool.{true≢false}
-use Rattle.store_entry.specs.Entering.{is-misplaced}
-use Rattle.store_entry.proofs.Nine.{never-nine}
 use Rattle.cut.specs.Cutting.{cut, handed-back}
 use Rattle.head.specs.Answers.{cut-number}
 use native.Mathlib.Nat.{le-refl}
@@ -34,46 +31,12 @@ find-requires c κs =
     let w = cut-ready (at-start .args .head) _ _ _ _ (at-start .args .cost) (sym (at-cut-asked .cut-asked .ensures) ∙ at-if1 .if1 .left) in
     (le-within _ (w .tracked-held) (w .tags-room), le-to (w .tracked-held) (w .units-room))
 
-is-misplaced-requires : tie.Need-is-misplaced-requires
-is-misplaced-requires c κs =
-    let at-if1 = c .before .before .before .before .before .before .before .before .before .before in
-    let at-cut-asked = at-if1 .before in
-    let at-start = at-cut-asked .before .before in
-    let w = cut-ready (at-start .args .head) _ _ _ _ (at-start .args .cost) (sym (at-cut-asked .cut-asked .ensures) ∙ at-if1 .if1 .left) in
-    (le-within _ (w .tracked-held) (w .tags-room), (le-to (w .tracked-held) (w .units-room), c .before .before .find .ensures))
-
-same-length : tie.Need-same-length
-same-length c = search needs
-
-same-length-2 : tie.Need-same-length-2
-same-length-2 c = search needs
-
-returns-2 : tie.Need-returns-2
-unfolding cut cut-number
-returns-2 c =
-    let at-if2 = c .before .before .before .before .before .before .before in
-    let at-hands-back = at-if2 .before in
-    let at-name-of = at-hands-back .before in
-    let at-if1 = at-name-of .before .before .before in
-    let at-cut-asked = at-if1 .before in (
-      simp (
-        sym (at-cut-asked .cut-asked .ensures),
-        eq-eqb _ _ (at-if1 .if1 .left),
-        sym (at-hands-back .hands-back .ensures),
-        at-if2 .if2 .taken,
-        sym (at-name-of .name-of .ensures),
-        sym (c .before .is-misplaced .ensures),
-        c .if3 .taken,
-      ),
-      absurd (true≢false (sym (c .if3 .taken) ∙ c .before .is-misplaced .ensures ∙ never-nine _ _ _ _)),
-    )
-
 numbers-requires : tie.Need-numbers-requires
 numbers-requires c κs = search needs
 
 handed-back-requires : tie.Need-handed-back-requires
 handed-back-requires c κs =
-    let at-find = c .before .before .before .before .before .before .before .before in
+    let at-find = c .before .before .before .before in
     let at-name-of = at-find .before .before .before .before .before in
     let at-if1 = at-name-of .before .before .before in
     let at-cut-asked = at-if1 .before in
@@ -86,7 +49,7 @@ handed-back-requires c κs =
 noted-requires : tie.Need-noted-requires
 noted-requires c κs =
     let at-handed-back = c .before .before .before .before .before .before in
-    let at-if1 = at-handed-back .before .before .before .before .before .before .before .before .before .before .before .before .before .before .before .before .before in
+    let at-if1 = at-handed-back .before .before .before .before .before .before .before .before .before .before .before .before .before in
     let at-cut-asked = at-if1 .before in
     let at-start = at-cut-asked .before .before in
     let w = cut-ready (at-start .args .head) _ _ _ _ (at-start .args .cost) (sym (at-cut-asked .cut-asked .ensures) ∙ at-if1 .if1 .left) in (
@@ -95,27 +58,25 @@ noted-requires c κs =
       lt-by (at-handed-back .handed-back .ensures .1 .0) (w .counted-held),
     )
 
+same-length : tie.Need-same-length
+same-length c = search needs
+
+same-length-2 : tie.Need-same-length-2
+same-length-2 c = search needs
+
 same-length-3 : tie.Need-same-length-3
 same-length-3 c = search needs
 
 same-length-4 : tie.Need-same-length-4
 same-length-4 c = search needs
 
-same-length-5 : tie.Need-same-length-5
-same-length-5 c = search needs
-
-same-length-6 : tie.Need-same-length-6
-same-length-6 c = search needs
-
-returns-3 : tie.Need-returns-3
+returns-2 : tie.Need-returns-2
 unfolding cut cut-number
-returns-3 c =
+returns-2 c =
     let at-noted = c .before .before .before in
     let at-handed-back = at-noted .before .before .before .before .before .before .before in
     let at-numbers = at-handed-back .before in
-    let at-if3 = at-numbers .before .before .before .before in
-    let at-is-misplaced = at-if3 .before in
-    let at-if2 = at-is-misplaced .before .before .before .before .before .before in
+    let at-if2 = at-numbers .before .before .before .before .before .before .before in
     let at-hands-back = at-if2 .before in
     let at-name-of = at-hands-back .before in
     let at-if1 = at-name-of .before .before .before in
@@ -126,8 +87,6 @@ returns-3 c =
         eq-eqb _ _ (at-if1 .if1 .left),
         sym (at-hands-back .hands-back .ensures),
         at-if2 .if2 .taken,
-        sym (at-is-misplaced .is-misplaced .ensures ∙ ap (is-misplaced _ _ _) (at-name-of .name-of .ensures)),
-        at-if3 .if3 .left,
       ) (cut-is _ _ (args .unit) (args .cause) (args .cost) (at-handed-back .handed-back .result) _ _ _ (at-name-of .name-of .result)
           (at-noted .noted .result) _ _ (at-handed-back .handed-back .ensures .0 ∙ ap (handed-back _ (args .unit)) (at-numbers .numbers .ensures))
           (at-name-of .name-of .ensures) (at-noted .noted .ensures .0)),
@@ -142,15 +101,15 @@ noted-requires-2 c κs =
     let w = cut-ready (at-start .args .head) _ _ _ _ (at-start .args .cost) (sym (at-cut-asked .cut-asked .ensures) ∙ at-if1 .if1 .left) in
     (sum-within refl refl (w .counted-held) (w .tags-room) refl, w .counted-held)
 
-same-length-7 : tie.Need-same-length-7
-same-length-7 c = search needs
+same-length-5 : tie.Need-same-length-5
+same-length-5 c = search needs
 
-same-length-8 : tie.Need-same-length-8
-same-length-8 c = search needs
+same-length-6 : tie.Need-same-length-6
+same-length-6 c = search needs
 
-returns-4 : tie.Need-returns-4
+returns-3 : tie.Need-returns-3
 unfolding cut cut-number
-returns-4 c =
+returns-3 c =
     let at-noted2 = c .before .before .before in
     let at-if2 = at-noted2 .before .before .before in
     let at-hands-back = at-if2 .before in
@@ -173,19 +132,15 @@ cut-spec =
     name-of-requires
     hands-back-requires
     find-requires
-    is-misplaced-requires
-    same-length
-    same-length-2
-    returns-2
     numbers-requires
     handed-back-requires
     noted-requires
+    same-length
+    same-length-2
     same-length-3
     same-length-4
+    returns-2
+    noted-requires-2
     same-length-5
     same-length-6
-    returns-3
-    noted-requires-2
-    same-length-7
-    same-length-8
-    returns-4)
+    returns-3)

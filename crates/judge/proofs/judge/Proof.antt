@@ -3,8 +3,6 @@ use Rattle.head.proofs.Bounds.{le-to, le-within}
 use Rattle.head.specs.Answers.{judge-number}
 use Rattle.sender.specs.Sender.{name-by-hash}
 use Rattle.judge.specs.Judging.{judge}
-use Rattle.store_entry.proofs.Nine.{never-nine}
-use mathlib.Core.Bool.{true≢false}
 use borrow.Author.Tests.{eq-eqb, ne-eqb}
 use mathlib.Core.Path.{sym, ap, _∙_}
 use borrow.Author.Needs.{needs}
@@ -45,45 +43,9 @@ find-requires c κs =
     (sym (at-judge-asked .judge-asked .ensures) ∙ at-if1 .if1 .left) in
     (le-within _ (w .tracked-held) (w .tags-room), le-to (w .tracked-held) (w .units-room))
 
-is-misplaced-requires : tie.Need-is-misplaced-requires
-is-misplaced-requires c κs =
-    let at-if1 = c .before .before .before .before .before .before .before .before .before .before .before in
-    let at-judge-asked = at-if1 .before in
-    let at-start = at-judge-asked .before .before in
-    let w = asked-ready (at-start .args .head) _ _ _ _ (at-start .args .cost) (at-start .args .stamp)
-    (sym (at-judge-asked .judge-asked .ensures) ∙ at-if1 .if1 .left) in
-    (le-within _ (w .tracked-held) (w .tags-room), (le-to (w .tracked-held) (w .units-room), c .before .before .find .ensures))
-
-same-length : tie.Need-same-length
-same-length c = search needs
-
-same-length-2 : tie.Need-same-length-2
-same-length-2 c = search needs
-
-returns-3 : tie.Need-returns-3
-unfolding judge judge-number
-returns-3 c =
-    let at-name-by-hash = c .before .before .before .before .before .before .before in
-    let at-hash-of = at-name-by-hash .before in
-    let at-if2 = at-hash-of .before in
-    let at-is-unbounded = at-if2 .before in
-    let at-if1 = at-is-unbounded .before .before .before in
-    let at-judge-asked = at-if1 .before in (
-      simp (
-        sym (at-judge-asked .judge-asked .ensures),
-        eq-eqb _ _ (at-if1 .if1 .left),
-        sym (at-is-unbounded .is-unbounded .ensures),
-        at-if2 .if2 .left,
-        sym ((at-name-by-hash .name-by-hash .ensures ∙ ap (name-by-hash _) (at-hash-of .hash-of .ensures))),
-        sym (c .before .is-misplaced .ensures),
-        c .if3 .taken,
-      ),
-      absurd (true≢false (sym (c .if3 .taken) ∙ c .before .is-misplaced .ensures ∙ never-nine _ _ _ _)),
-    )
-
 bounded-requires : tie.Need-bounded-requires
 bounded-requires c κs =
-    let at-find = c .before .before .before .before .before .before .before .before .before .before in
+    let at-find = c .before .before .before .before .before .before in
     let at-name-by-hash = at-find .before .before .before in
     let at-hash-of = at-name-by-hash .before in
     let at-if1 = at-hash-of .before .before .before .before .before in
@@ -100,27 +62,23 @@ bounded-requires c κs =
       ),
     )
 
+same-length : tie.Need-same-length
+same-length c = search needs
+
+same-length-2 : tie.Need-same-length-2
+same-length-2 c = search needs
+
 same-length-3 : tie.Need-same-length-3
 same-length-3 c = search needs
 
 same-length-4 : tie.Need-same-length-4
 same-length-4 c = search needs
 
-same-length-5 : tie.Need-same-length-5
-same-length-5 c = search needs
-
-same-length-6 : tie.Need-same-length-6
-same-length-6 c = search needs
-
-returns-4 : tie.Need-returns-4
+returns-3 : tie.Need-returns-3
 unfolding judge judge-number
-returns-4 c =
+returns-3 c =
     let at-bounded = c .before .before .before .before .before in
-    let at-if3 = at-bounded .before .before .before .before .before .before .before in
-    let at-is-misplaced = at-if3 .before in
-    let at-name-by-hash = at-is-misplaced .before .before .before .before .before .before in
-    let at-hash-of = at-name-by-hash .before in
-    let at-if2 = at-hash-of .before in
+    let at-if2 = at-bounded .before .before .before .before .before .before .before .before .before .before .before .before in
     let at-is-unbounded = at-if2 .before in
     let at-if1 = at-is-unbounded .before .before .before in
     let at-judge-asked = at-if1 .before in (
@@ -129,9 +87,6 @@ returns-4 c =
         eq-eqb _ _ (at-if1 .if1 .left),
         sym (at-is-unbounded .is-unbounded .ensures),
         at-if2 .if2 .left,
-        sym ((at-name-by-hash .name-by-hash .ensures ∙ ap (name-by-hash _) (at-hash-of .hash-of .ensures))),
-        sym (at-is-misplaced .is-misplaced .ensures),
-        at-if3 .if3 .left,
       ) (at-bounded .bounded .ensures .0),
       at-bounded .bounded .ensures .1 ∙ sym (at-if1 .if1 .left) ∙ at-judge-asked .judge-asked .ensures,
     )
@@ -147,13 +102,9 @@ judge-spec =
     hash-of-requires
     name-by-hash-requires
     find-requires
-    is-misplaced-requires
+    bounded-requires
     same-length
     same-length-2
-    returns-3
-    bounded-requires
     same-length-3
     same-length-4
-    same-length-5
-    same-length-6
-    returns-4)
+    returns-3)
