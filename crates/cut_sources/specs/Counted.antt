@@ -1,6 +1,6 @@
 -- The rows of counted sources: found, counted, and the least counted left out. Definitions only.
 use Prim.Native.Nat.{ℕ, zero, suc, _+_, _-_, _/_, _%_, _^_}
-use mathlib.Core.Bool.{Bool, false, cond}
+use mathlib.Core.Bool.{Bool, cond, _&&_}
 use mathlib.Core.List.{List, [], _∷_, _++_, map}
 use lib.Dec.{eqb, ltb}
 use lib.ListN.{length, getD, set, replicate, take, drop}
@@ -20,7 +20,7 @@ reads-as rows w i = same (words-of (unit-of (words-at rows i))) w
 
 -- the source at i is the unit's: tag and words; one whose tag is not its unit's is not found
 unfoldable pub counted-is : List ℕ → List (List ℕ) → Name → ℕ → Bool
-counted-is tags rows name i = cond (eqb (getD tags i 0) (name .tag)) (reads-as rows (name .words) i) false
+counted-is tags rows name i = eqb (getD tags i 0) (name .tag) && reads-as rows (name .words) i
 
 unfoldable pub counted-find : List ℕ → List (List ℕ) → Name → ℕ → ℕ
 counted-find tags rows name n = first (counted-is tags rows name) n

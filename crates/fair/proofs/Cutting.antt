@@ -17,6 +17,7 @@ use Rattle.flow.specs.declared.Use.{Use}
 use Rattle.sender.specs.declared.Unit as unit
 use Rattle.sender.specs.Sender as sender
 use Rattle.store.specs.Store.{Rows, rows}
+use Rattle.head.proofs.Tests.{zero-yes}
 use Rattle.head.specs.declared.Shedder.{Shedder}
 use Rattle.head.specs.declared.Cause.{Cause}
 use Rattle.head.specs.declared.Cause.the-variants as cause
@@ -35,7 +36,7 @@ use Rattle.fair.proofs.Tied.{Tied, Bound}
 use Rattle.fair.proofs.Outcome as outcome
 use Rattle.fair.proofs.Outcome.{costs, numbers-priced}
 use Rattle.fair.proofs.Judging as judging
-use Rattle.fair.proofs.Judging.{found-at, not-unbounded, small-costs, zero-yes}
+use Rattle.fair.proofs.Judging.{found-at, not-unbounded, small-costs}
 
 -- the head and the rows that a cut is counted over: with the cost handed back, or as they were
 abbrev pub cut-on : Shedder → Rows → unit.Unit → Cause → List ℕ → shed.KeptBy

@@ -397,7 +397,12 @@ module _ (rate ceiling : ℕ → ℕ) (overflow : Bool) (d : ℕ) (small : d < d
 
       modest-too : (k : ℕ) → credit.Present overflow k (shown see-credit (batch ∷ h)) → credit.Modest (shown see-credit (batch ∷ h)) k
       modest-too k p = record {
-        bound = rw (← sum-shown see-credit (demand.tried-here d) credit.tried tried-here-same (suc k) (batch ∷ h), ← lowest-shown see-credit demand.here credit.judges (demand.fill-here d) credit.fill here-same fill-here-same k (batch ∷ h), ← credit-back k (batch ∷ h), ← credit-clock (batch ∷ h))
+        bound = rw (
+          ← sum-shown see-credit (demand.tried-here d) credit.tried tried-here-same (suc k) (batch ∷ h),
+          ← lowest-shown see-credit demand.here credit.judges (demand.fill-here d) credit.fill here-same fill-here-same k (batch ∷ h),
+          ← credit-back k (batch ∷ h),
+          ← credit-clock (batch ∷ h),
+        )
             (modest k (since-shown see-credit demand.here credit.judges (λ (h : List Deed). demand.there (state rate ceiling overflow h .used)) (λ (h : List credit.Call). credit.there (credit.place overflow h)) here-same there-same k (batch ∷ h) p));
       }
 

@@ -22,6 +22,8 @@ use Rattle.sender.specs.declared.Name as sender-name
 use Rattle.cut_sources.specs.Counted as counts
 use Rattle.store.specs.Store.{Rows, rows}
 use Rattle.store.proofs.Places.{Same}
+use Rattle.ieee.proofs.Tests.{both-yes}
+use Rattle.head.proofs.Tests.{zero-yes}
 use Rattle.head.specs.declared.Shedder.{Shedder}
 use Rattle.head.specs.declared.Flow.{Flow}
 use Rattle.head.specs.declared.Answer.the-variants as answer
@@ -283,14 +285,10 @@ module _ (room : ℕ) (rate : List ℕ) where
 -- ---- a judgement that is not refused
 pub bounded-rates : (rate : List ℕ) → shed.all-rates rate ≡ true → (d : ℕ) → d < dims → (1 ≤ getD rate d 0) × (getD rate d 0 ≤ 2 ^ 40)
 unfolding shed.all-rates shed.is-rate
-bounded-rates rate e d small = go (getD rate d 0) (all-at (λ (d : ℕ). shed.is-rate (getD rate d 0)) dims d small e)
-  where
-    go : (r : ℕ) → cond (leb 1 r) (leb r 1099511627776) false ≡ true → (1 ≤ r) × (r ≤ 2 ^ 40)
-    go r e = by (leb 1 r) refl e
-      where
-        by : (c : Bool) → leb 1 r ≡ c → cond c (leb r 1099511627776) false ≡ true → (1 ≤ r) × (r ≤ 2 ^ 40)
-        by true f e = (leb-true 1 r f, leb-true r 1099511627776 e)
-        by false f e = absurd (true≢false (sym e))
+bounded-rates rate e d small =
+    let r = getD rate d 0 in
+    let y = both-yes (leb 1 r) (leb r 1099511627776) (all-at (λ (d : ℕ). shed.is-rate (getD rate d 0)) dims d small e) in
+    (leb-true 1 r (y .0), leb-true r 1099511627776 (y .1))
 
 pub not-unbounded : (rate : List ℕ) → shed.all-rates rate ≡ true → shed.is-unbounded rate ≡ false
 unfolding shed.is-unbounded shed.is-max
@@ -320,10 +318,6 @@ taken h m u cost t unb f =
     record { asked = eqb-true n 0 (r .0); is = r .1 }
 
 -- question 5
-pub zero-yes : (b : Bool) (x n : ℕ) → cond b x (suc n) ≡ 0 → (b ≡ true) × (x ≡ 0)
-zero-yes true x n e = (refl, e)
-zero-yes false x n e = absurd (omega arith)
-
 pub small-costs : (cost : List ℕ) → shed.costs-held cost ≡ true → (d : ℕ) → d < dims → getD cost d 0 ≤ 2 ^ 40
 unfolding shed.costs-held
 small-costs cost e d small = leb-true (getD cost d 0) 1099511627776 (all-at (λ (d : ℕ). leb (getD cost d 0) 1099511627776) dims d small e)

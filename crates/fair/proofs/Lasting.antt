@@ -3,7 +3,7 @@ use mathlib.Core.Path.{_≡_, refl, sym, ap, _∙_, subst}
 use Prim.Native.Nat.{ℕ, zero, suc, _+_, _-_, _≤_, _<_, max}
 use native.Mathlib.Nat.{le-refl}
 use native.Mathlib.Omega.{arith}
-use mathlib.Core.Bool.{Bool, true, false, cond, true≢false, _||_}
+use mathlib.Core.Bool.{Bool, true, false, cond, true≢false, _&&_, _||_}
 use mathlib.Core.List.{List, [], _∷_}
 use lib.Dec.{eqb, ltb}
 use lib.ListN.{length}
@@ -14,6 +14,8 @@ use Rattle.sender.specs.Sender as sender
 use Rattle.store.specs.Store as store
 use Rattle.wants.specs.Wants as wants
 use Rattle.head.specs.declared.Shedder.{Shedder}
+use Rattle.ieee.proofs.Tests.{both-yes}
+use Rattle.head.proofs.Tests.{zero-yes, no-yes}
 use Rattle.head.specs.declared.Cause.{Cause}
 use Rattle.head.specs.declared.Begin.the-variants as begin
 use Rattle.fair.specs.Given as shed
@@ -47,10 +49,6 @@ rooms-yes : (u c t k : ℕ) → Rooms u c → t ≤ u → k < c → shed.rooms-w
 unfolding shed.rooms-whole
 rooms-yes u c t k r p q = rw (le-ltb u 1 (r .some), le-ltb 131072 u (r .most), le-ltb c 2 (r .two), le-ltb 4097 c (r .counted), le-ltb u t p, lt-ltb k c q)
 
-no-yes : (b x : Bool) → cond b false x ≡ true → (b ≡ false) × (x ≡ true)
-no-yes true x e = absurd (true≢false (sym e))
-no-yes false x e = (refl, e)
-
 rooms-of : (u c t k : ℕ) → shed.rooms-whole u c t k ≡ true → Rooms u c
 unfolding shed.rooms-whole
 rooms-of u c t k e =
@@ -64,11 +62,12 @@ stamps-yes : (a b c d : ℕ) → a < 9007199254740992 → b < 9007199254740992 �
 unfolding shed.stamps-whole shed.is-stamp
 stamps-yes a b c d p q r s = rw (lt-ltb a 9007199254740992 p, lt-ltb b 9007199254740992 q, lt-ltb c 9007199254740992 r, lt-ltb d 9007199254740992 s)
 
-or-right : (a : Bool) → _||_ a true ≡ true
+or-right : (a : Bool) → a || true ≡ true
 or-right true = refl
 or-right false = refl
 
-head-yes : (h : Shedder) (rate : List ℕ) (room size : ℕ) → h .flow .rate ≡ rate → shed.all-rates rate ≡ true → h .«unit_room» ≡ room → Rooms room size → h .tracked ≤ room → h .flow .«at_ms» < 9007199254740992 → Fine size h (h .flow .«at_ms») → shed.head-whole h ≡ true
+head-yes : (h : Shedder) (rate : List ℕ) (room size : ℕ) → h .flow .rate ≡ rate → shed.all-rates rate ≡ true → h .«unit_room» ≡ room → Rooms room size → h .tracked ≤ room
+    → h .flow .«at_ms» < 9007199254740992 → Fine size h (h .flow .«at_ms») → shed.head-whole h ≡ true
 unfolding shed.head-whole
 head-yes h rate room size e rates f r p low fine =
     let a : shed.all-rates (h .flow .rate) ≡ true = ap shed.all-rates e ∙ rates in
@@ -192,10 +191,6 @@ module _ (room size : ℕ) (rate ceiling : List ℕ) (rates : shed.all-rates rat
     }
 
 -- ---- from a start
-yes-yes : (b x : Bool) → cond b x false ≡ true → (b ≡ true) × (x ≡ true)
-yes-yes true x e = (refl, e)
-yes-yes false x e = absurd (true≢false (sym e))
-
 -- what question 2 shows
 pub record Sizes (i u s k : ℕ) : Type 0 where
   pub tags : i ≡ u + k
@@ -205,10 +200,10 @@ pub record Sizes (i u s k : ℕ) : Type 0 where
 asked-sizes : (rate : List ℕ) (i u s k : ℕ) → shed.start-asked rate i u s k ≡ 0 → Sizes i u s k
 unfolding shed.start-asked shed.sizes-whole shed.tags-whole
 asked-sizes rate i u s k e =
-    let a = judging.zero-yes (_||_ (shed.is-unbounded rate) (shed.all-rates rate)) _ 0 e in
-    let b = judging.zero-yes (cond (eqb i (u + k)) (cond (eqb s u) (shed.rooms-whole u k 0 0) false) false) 0 1 (a .1) in
-    let c = yes-yes (eqb i (u + k)) _ (b .0) in
-    let d = yes-yes (eqb s u) _ (c .1) in
+    let a = zero-yes (shed.is-unbounded rate || shed.all-rates rate) _ 0 e in
+    let b = zero-yes (eqb i (u + k) && (eqb s u && shed.rooms-whole u k 0 0)) 0 1 (a .1) in
+    let c = both-yes (eqb i (u + k)) _ (b .0) in
+    let d = both-yes (eqb s u) _ (c .1) in
     record { tags = eqb-true i (u + k) (c .0); uses = eqb-true s u (d .0); rooms = rooms-of u k 0 0 (d .1) }
 
 started-asked : (n : ℕ) (h o : Shedder) (g k : wants.Hist) (a : Bool) → cond a (shed.start-ends begin.Started o k) (shed.start-ends (begin.Refused n) h g) .answer ≡ begin.Started → a ≡ true

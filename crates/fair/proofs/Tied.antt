@@ -11,6 +11,7 @@ use lib.Ieee as Ieee
 use lib.Ieee.{Float, binary64, nan}
 use lib.Ieee.Fits.{mul-fits}
 use borrow.Author.Tests.{ltb-true, lt-ltb}
+use Rattle.ieee.proofs.Tests.{both-yes}
 use Rattle.ieee.specs.Doubles.{one, nothing}
 use Rattle.ieee.specs.Extremes.{most}
 use Rattle.flow.specs.Flow.{dims, at, bucket-at}
@@ -40,12 +41,12 @@ module _ (room : ℕ) where
   abbrev sweep : (R′ → Bool) → List R′ → List R′
   sweep p rs = view.sweep room p rs
 
-  sweep-twice : (p q : R′ → Bool) (xs : List R′) → sweep q (sweep p xs) ≡ sweep (λ (r : R′). _||_ (p r) (q r)) xs
+  sweep-twice : (p q : R′ → Bool) (xs : List R′) → sweep q (sweep p xs) ≡ sweep (λ (r : R′). p r || q r) xs
   sweep-twice p q [] = refl
   sweep-twice p q (x ∷ xs) = go (sweep-twice p q xs) (p x) refl
     where
-      go : sweep q (sweep p xs) ≡ sweep (λ (r : R′). _||_ (p r) (q r)) xs → (b : Bool) → p x ≡ b
-          → sweep q (cond b (sweep p xs) (x ∷ sweep p xs)) ≡ cond (_||_ b (q x)) (sweep (λ (r : R′). _||_ (p r) (q r)) xs) (x ∷ sweep (λ (r : R′). _||_ (p r) (q r)) xs)
+      go : sweep q (sweep p xs) ≡ sweep (λ (r : R′). p r || q r) xs → (b : Bool) → p x ≡ b
+          → sweep q (cond b (sweep p xs) (x ∷ sweep p xs)) ≡ cond (b || q x) (sweep (λ (r : R′). p r || q r) xs) (x ∷ sweep (λ (r : R′). p r || q r) xs)
       go i true e = i
       go i false e = ap (λ (l : List R′). cond (q x) l (x ∷ l)) i
 
@@ -196,7 +197,7 @@ module _ (room : ℕ) where
     -- ---- THE SCAN of a judgement: one sweep of the rows of the tables that it visits, and more than 8 s old at its stamp
     abbrev pub came-from : Shedder → R′ → Bool
     came-from b r = cond (leb 1 (b .scan .remaining))
-        (_||_ (view.stale room (b .scan .next) (b .scan .«at_ms») r) (cond (leb 1 (b .scan .remaining - 1)) (view.stale room (b .scan .next + 1) (b .scan .«at_ms») r) false)) false
+        (view.stale room (b .scan .next) (b .scan .«at_ms») r || (cond (leb 1 (b .scan .remaining - 1)) (view.stale room (b .scan .next + 1) (b .scan .«at_ms») r) false)) false
 
     -- the rows that the scan of a judgement drops
     abbrev pub came : Shedder → Hist → ℕ → R′ → Bool
@@ -204,7 +205,7 @@ module _ (room : ℕ) where
 
     visits-bound : (h : Shedder) (m : Rows) (g : Hist) (st : entry.S room) (clk : ℕ) → Bound rate h m st clk
         → Bound rate (shed.again (shed.visit (shed.scanning h m g)) .head) (shed.again (shed.visit (shed.scanning h m g)) .rows)
-        (swept (λ (r : R′). _||_ (view.stale room (h .scan .next) (h .scan .«at_ms») r) (cond (leb 1 (h .scan .remaining - 1)) (view.stale room (h .scan .next + 1) (h .scan .«at_ms») r) false)) st) clk
+        (swept (λ (r : R′). view.stale room (h .scan .next) (h .scan .«at_ms») r || (cond (leb 1 (h .scan .remaining - 1)) (view.stale room (h .scan .next + 1) (h .scan .«at_ms») r) false)) st) clk
     unfolding shed.visit shed.visited
     visits-bound h m g st clk b =
         let v = shed.visit (shed.scanning h m g) in
@@ -213,18 +214,16 @@ module _ (room : ℕ) where
 
     -- what it drops is old by the clock
     stale-old : (table a clk : ℕ) → a ≤ clk → (r : R′) → view.stale room table a r ≡ true → ltb (r .used .«at_ms» + stale-after) clk ≡ true
-    stale-old table a clk l r e = go (eqb (sender.table-of-tag (r .name .name .tag)) table) e
-      where
-        go : (c : Bool) → cond c (ltb 8000 (a - r .used .«at_ms»)) false ≡ true → ltb (r .used .«at_ms» + stale-after) clk ≡ true
-        go true e = lt-ltb (r .used .«at_ms» + stale-after) clk (omega (arith, ltb-true 8000 (a - r .used .«at_ms») e))
-        go false e = absurd (true≢false (sym e))
+    stale-old table a clk l r e =
+        let y = both-yes (eqb (sender.table-of-tag (r .name .name .tag)) table) (ltb 8000 (a - r .used .«at_ms»)) e in
+        lt-ltb (r .used .«at_ms» + stale-after) clk (omega (arith, ltb-true 8000 (a - r .used .«at_ms») (y .1)))
 
     came-old : (b : Shedder) (clk : ℕ) → b .scan .«at_ms» ≤ clk → (r : R′) → came-from b r ≡ came-from b r && ltb (r .used .«at_ms» + stale-after) clk
     came-old b clk l r = go (leb 1 (b .scan .remaining)) (view.stale room (b .scan .next) (b .scan .«at_ms») r) (leb 1 (b .scan .remaining - 1)) (view.stale room (b .scan .next + 1) (b .scan .«at_ms») r)
         (stale-old (b .scan .next) (b .scan .«at_ms») clk l r) (stale-old (b .scan .next + 1) (b .scan .«at_ms») clk l r)
       where
         go : (c p d q : Bool) → (p ≡ true → ltb (r .used .«at_ms» + stale-after) clk ≡ true) → (q ≡ true → ltb (r .used .«at_ms» + stale-after) clk ≡ true)
-            → cond c (_||_ p (cond d q false)) false ≡ cond c (_||_ p (cond d q false)) false && ltb (r .used .«at_ms» + stale-after) clk
+            → cond c (p || cond d q false) false ≡ cond c (p || cond d q false) false && ltb (r .used .«at_ms» + stale-after) clk
         go false p d q f g = refl
         go true true d q f g = sym (f refl)
         go true false false q f g = refl
@@ -242,7 +241,7 @@ module _ (room : ℕ) where
         by : (s : shed.Started) → Bound rate (s .head) m st clk → (c : Bool)
             → Bound rate (cond c (shed.ended-at (shed.again (shed.visit (shed.scanning (s .head) m (s .hist))))) (shed.scanning (s .head) m (s .hist)) .head)
             (cond c (shed.ended-at (shed.again (shed.visit (shed.scanning (s .head) m (s .hist))))) (shed.scanning (s .head) m (s .hist)) .rows)
-            (swept (λ (r : R′). cond c (_||_ (view.stale room (s .head .scan .next) (s .head .scan .«at_ms») r) (cond (leb 1 (s .head .scan .remaining - 1)) (view.stale room (s .head .scan .next + 1) (s .head .scan .«at_ms») r) false)) false) st) clk
+            (swept (λ (r : R′). cond c (view.stale room (s .head .scan .next) (s .head .scan .«at_ms») r || (cond (leb 1 (s .head .scan .remaining - 1)) (view.stale room (s .head .scan .next + 1) (s .head .scan .«at_ms») r) false)) false) st) clk
         by s b true = ended-bound (shed.again (shed.visit (shed.scanning (s .head) m (s .hist))) .head) _ (shed.again (shed.visit (shed.scanning (s .head) m (s .hist))) .hist) _ clk (visits-bound (s .head) m (s .hist) st clk b)
         by s b false = re-rows (s .head) m st clk (sweep (λ (r : R′). false) (st .rows)) (sym (sweep-none (st .rows))) b
 

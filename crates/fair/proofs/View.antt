@@ -2,7 +2,7 @@
 use mathlib.Core.Path.{_≡_, refl, sym, ap, _∙_, subst}
 use Prim.Native.Nat.{ℕ, zero, suc, _+_, _-_}
 use native.Mathlib.Numerals.{add-one}
-use mathlib.Core.Bool.{Bool, true, false, cond, true≢false}
+use mathlib.Core.Bool.{Bool, true, false, cond, _&&_, true≢false}
 use mathlib.Core.List.{List, [], _∷_, _++_}
 use lib.Dec.{T, eqb, ltb}
 use lib.ListN.{length, getD, length-append}
@@ -15,6 +15,7 @@ use Rattle.sender.specs.declared.Unit as unit
 use Rattle.store.specs.Store as store
 use Rattle.store.specs.Store.{Rows, name-at}
 use Rattle.store.proofs.Names as stored
+use Rattle.ieee.proofs.Tests.{both-yes}
 use Rattle.fair.specs.Store as model
 use Rattle.fair.specs.Calls.{same-name}
 
@@ -30,7 +31,7 @@ alike false true = false
 alike false false = true
 
 abbrev pub same : Name → Name → Bool
-same u v = cond (alike (u .overflow) (v .overflow)) (same-name (u .name) (v .name)) false
+same u v = alike (u .overflow) (v .overflow) && same-name (u .name) (v .name)
 
 abbrev pub shares : Name → Bool
 shares u = u .overflow
@@ -50,10 +51,6 @@ alike-self : (a : Bool) → alike a a ≡ true
 alike-self true = refl
 alike-self false = refl
 
-both : (a x : Bool) → cond a x false ≡ true → (a ≡ true) × (x ≡ true)
-both true x e = (refl, e)
-both false x e = absurd (true≢false (sym e))
-
 true-of : (b : Bool) → T b → b ≡ true
 true-of true t = refl
 true-of false t = absurd t
@@ -67,7 +64,7 @@ words-self v = simp (eq-eqb (v .kind) (v .kind) refl, eq-eqb (v .a) (v .a) refl,
 
 pair-same : (v w : sender-name.Name) → same-name v w ≡ true → v ≡ w
 pair-same v w e =
-    let a = both (eqb (w .tag) (v .tag)) _ e in
+    let a = both-yes (eqb (w .tag) (v .tag)) _ e in
     stored.name-ext (v .tag) (w .tag) (v .words) (w .words) (sym (eqb-true (w .tag) (v .tag) (a .0))) (sym (stored.words-same (w .words) (v .words) (a .1)))
 
 pair-self : (v : sender-name.Name) → same-name v v ≡ true
@@ -75,11 +72,11 @@ pair-self v = simp (eq-eqb (v .tag) (v .tag) refl, words-self (v .words))
 
 pub same-is : (u v : Name) → T (same u v) → u ≡ v
 same-is u v t =
-    let a = both (alike (u .overflow) (v .overflow)) _ (true-of (same u v) t) in
+    let a = both-yes (alike (u .overflow) (v .overflow)) _ (true-of (same u v) t) in
     name-ext (u .overflow) (v .overflow) (u .name) (v .name) (alike-of (u .overflow) (v .overflow) (a .0)) (pair-same (u .name) (v .name) (a .1))
 
 pub same-self : (u : Name) → T (same u u)
-same-self u = subst T (sym (ap (λ (b : Bool). cond b (same-name (u .name) (u .name)) false) (alike-self (u .overflow)) ∙ pair-self (u .name))) tt
+same-self u = subst T (sym (ap (λ (b : Bool). b && same-name (u .name) (u .name)) (alike-self (u .overflow)) ∙ pair-self (u .name))) tt
 
 -- ---- rows
 module _ (room : ℕ) where
@@ -101,7 +98,7 @@ module _ (room : ℕ) where
 
   -- of the table that the scan comes by, and more than 8 s old
   abbrev pub stale : ℕ → ℕ → R → Bool
-  stale table at r = cond (eqb (sender.table-of-tag (r .name .name .tag)) table) (ltb 8000 (at - r .used .«at_ms»)) false
+  stale table at r = eqb (sender.table-of-tag (r .name .name .tag)) table && ltb 8000 (at - r .used .«at_ms»)
 
   pub listed-length : (m : Rows) (n : ℕ) → length (listed m n) ≡ n
   unfolding listed

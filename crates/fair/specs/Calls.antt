@@ -3,7 +3,7 @@
 -- are made of), and nothing out of the program. Crate meaning's page says the same of each call: meaning/proofs/Agrees proves them equal.
 use Prim.Native.Nat.{ℕ, suc, _+_, _-_, _*_, _≤_, _<_, max}
 use mathlib.Core.Path.{_≡_}
-use mathlib.Core.Bool.{Bool, true, false, cond}
+use mathlib.Core.Bool.{Bool, true, false, cond, _&&_}
 use mathlib.Core.List.{List, [], _∷_}
 use lib.Dec.{T, eqb, ltb}
 use lib.ListN.{length, getD}
@@ -147,7 +147,7 @@ pub data Key : Type 0 where
 
 -- the same unit: tag and words
 abbrev pub same-name : Name → Name → Bool
-same-name v w = cond (eqb (w .tag) (v .tag)) (store.same (w .words) (v .words)) false
+same-name v w = eqb (w .tag) (v .tag) && store.same (w .words) (v .words)
 
 abbrev pub same-key : Key → Key → Bool
 same-key shared shared = true

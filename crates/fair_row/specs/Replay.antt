@@ -1,7 +1,7 @@
 -- A list of calls written as rows of words, and what running it leaves. Definitions only.
 use Prim.Native.Nat.{ℕ, zero, suc, _+_, _^_, _%_}
 use mathlib.Core.Path.{_≡_}
-use mathlib.Core.Bool.{Bool, true, false, cond}
+use mathlib.Core.Bool.{Bool, true, false, cond, _&&_}
 use mathlib.Core.List.{List, [], _∷_}
 use lib.Dec.{eqb, leb, ltb}
 use lib.ListN.{length, getD, replicate}
@@ -87,7 +87,7 @@ pub record Run : Type 0 where
 
 -- a call is one of the run where its row is, and where it was not refused by number
 unfoldable pub counts : Bool → ℕ → Bool
-counts inside number = cond inside (eqb number 0) false
+counts inside number = inside && eqb number 0
 
 -- the run begins at row `from`
 module _ (first : State) (from : ℕ) where

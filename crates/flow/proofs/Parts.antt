@@ -10,6 +10,7 @@ use lib.ListN.{length, getD, set, length-set}
 use lib.Seq.{getD-set-same, getD-set-other}
 use lib.Ieee.{Float, nan}
 use Rattle.ieee.specs.Doubles.{nothing}
+use Rattle.ieee.proofs.Tests.{both-yes}
 use Rattle.flow.specs.declared.Bucket.{Bucket}
 use Rattle.ieee.specs.Extremes.{most}
 use Rattle.flow.specs.Flow.{dims, at, each, bucket-at, upto, largest, all}
@@ -61,17 +62,13 @@ each-at f xs d h e = upto-at nan f dims xs d h (omega arith)
 pub buckets-at : (f : ℕ → Bucket) (bs : List Bucket) (d : ℕ) → d < dims → length bs ≡ dims → bucket-at (upto f dims bs) d ≡ f d
 buckets-at f bs d h e = upto-at (record { tokens = nan; burst = nan; «rate_per_ms» = nan }) f dims bs d h (omega arith)
 
-and-true : (a b : Bool) → a && b ≡ true → (a ≡ true) × (b ≡ true)
-and-true true b e = (refl, e)
-and-true false b e = absurd (true≢false (sym e))
-
 pub all-at : (p : ℕ → Bool) (n d : ℕ) → d < n → all p n ≡ true → p d ≡ true
 unfolding all
 all-at p zero d h e = absurd (omega arith)
-all-at p (suc n) d h e = go (λ l. all-at p n d l (and-true (all p n) (p n) e .0)) (ℕ-discrete d n)
+all-at p (suc n) d h e = go (λ l. all-at p n d l (both-yes (all p n) (p n) e .0)) (ℕ-discrete d n)
   where
     go : (d < n → p d ≡ true) → Dec (d ≡ n) → p d ≡ true
-    go r (yes q) = ap p q ∙ and-true (all p n) (p n) e .1
+    go r (yes q) = ap p q ∙ both-yes (all p n) (p n) e .1
     go r (no q) = r (omega arith)
 
 pub all-of : (p : ℕ → Bool) (n : ℕ) → ((d : ℕ) → d < n → p d ≡ true) → all p n ≡ true

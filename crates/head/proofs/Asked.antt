@@ -9,14 +9,15 @@ use lib.Dec.{eqb, leb}
 use borrow.Author.Tests.{eqb-true}
 use Rattle.head.specs.declared.Shedder.{Shedder}
 use Rattle.head.specs.Questions.{is-stamp, tables-whole, head-whole, tags-whole, memory-whole, costs-held, judge-asked, Ready, cut-asked, CutReady}
-use Rattle.head.proofs.Tests.{zero-yes, yes-yes, one-of}
+use Rattle.ieee.proofs.Tests.{both-yes}
+use Rattle.head.proofs.Tests.{zero-yes, one-of}
 use Rattle.head.proofs.Whole.{stamp-of, whole-of}
 
 tables-of : (r n : ℕ) → tables-whole r n ≡ true → r + n ≤ 64
 unfolding tables-whole
 tables-of r n e =
-    let x = yes-yes (leb r 64) _ e in
-    let y = yes-yes (leb n 64) _ (x .1) in
+    let x = both-yes (leb r 64) _ e in
+    let y = both-yes (leb n 64) _ (x .1) in
     ⊎-elim (λ (p : eqb (r + n) 64 ≡ true). omega (arith, eqb-true (r + n) 64 p)) (λ (p : eqb (r + n) 0 ≡ true). omega (arith, eqb-true (r + n) 0 p)) (one-of (eqb (r + n) 64) _ (y .1))
 
 module _ (h : Shedder) where
@@ -24,9 +25,9 @@ module _ (h : Shedder) where
     pub memory-of : memory-whole h i u s k ≡ true → (i ≡ h .«unit_room» + k) × (u ≡ h .«unit_room») × (s ≡ h .«unit_room») × (k ≡ h .«counted_room»)
     unfolding memory-whole tags-whole
     memory-of e =
-        let a = yes-yes (eqb i (u + k)) _ e in
-        let b = yes-yes (eqb u (h .«unit_room»)) _ (a .1) in
-        let d = yes-yes (eqb s (h .«unit_room»)) _ (b .1) in
+        let a = both-yes (eqb i (u + k)) _ e in
+        let b = both-yes (eqb u (h .«unit_room»)) _ (a .1) in
+        let d = both-yes (eqb s (h .«unit_room»)) _ (b .1) in
         (omega (arith, eqb-true i (u + k) (a .0), eqb-true u (h .«unit_room») (b .0)), eqb-true u (h .«unit_room») (b .0), eqb-true s (h .«unit_room») (d .0), eqb-true k (h .«counted_room») (d .1))
 
     pub asked-ready : (cost : List ℕ) (stamp : ℕ) → judge-asked h i u s k cost stamp ≡ 0 → Ready h i u s k stamp

@@ -8,7 +8,8 @@ use lib.Dec.{eqb, leb, ltb}
 use borrow.Author.Tests.{ltb-true, ltb-false, eqb-true, eq-eqb, lt-ltb, le-ltb, le-leb}
 use Rattle.head.specs.declared.Shedder.{Shedder}
 use Rattle.head.specs.Questions.{rates-whole, is-stamp, tables-whole, rooms-whole, stamps-whole, head-whole}
-use Rattle.head.proofs.Tests.{yes-yes, no-yes, one-of, both-yes, both, no-then, yes-then, first-yes}
+use Rattle.ieee.proofs.Tests.{both-yes}
+use Rattle.head.proofs.Tests.{no-yes, one-of, both, no-then, first-yes}
 
 -- ---- each question's part
 pub stamp-of : (t : ℕ) → is-stamp t ≡ true → t < 9007199254740992
@@ -21,13 +22,13 @@ stamp-is t p = lt-ltb t 9007199254740992 p
 
 pub tables-is : (r n : ℕ) → r + n ≡ 64 → tables-whole r n ≡ true
 unfolding tables-whole
-tables-is r n e = yes-then (leb r 64) _ (le-leb r 64 (omega (arith, e))) (yes-then (leb n 64) _ (le-leb n 64 (omega (arith, e))) (first-yes (eqb (r + n) 64) _ (eq-eqb (r + n) 64 e)))
+tables-is r n e = both (leb r 64) _ (le-leb r 64 (omega (arith, e))) (both (leb n 64) _ (le-leb n 64 (omega (arith, e))) (first-yes (eqb (r + n) 64) _ (eq-eqb (r + n) 64 e)))
 
 pub tables-sum : (r n : ℕ) → tables-whole r n ≡ true → 1 ≤ r → r + n ≡ 64
 unfolding tables-whole
 tables-sum r n e p =
-    let x = yes-yes (leb r 64) _ e in
-    let y = yes-yes (leb n 64) _ (x .1) in
+    let x = both-yes (leb r 64) _ e in
+    let y = both-yes (leb n 64) _ (x .1) in
     ⊎-elim (λ (q : eqb (r + n) 64 ≡ true). eqb-true (r + n) 64 q) (λ (q : eqb (r + n) 0 ≡ true). omega (arith, eqb-true (r + n) 0 q)) (one-of (eqb (r + n) 64) _ (y .1))
 
 rooms-is : (u c t k : ℕ) → 1 ≤ u → u ≤ 131072 → 2 ≤ c → c ≤ 4097 → t ≤ u → k < c → rooms-whole u c t k ≡ true

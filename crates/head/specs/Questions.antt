@@ -31,7 +31,7 @@ abbrev pub «SOURCE_RECORDS» : ℕ
 
 -- ---- question 1: both rates u64::MAX (unbounded), or each 1 to 2^40
 unfoldable pub is-rate : ℕ → Bool
-is-rate r = cond (leb 1 r) (leb r «RATE_MOST») false
+is-rate r = leb 1 r && leb r «RATE_MOST»
 
 unfoldable pub is-max : ℕ → Bool
 is-max r = eqb r «UNBOUNDED»
@@ -56,7 +56,7 @@ tags-whole tags units counted = eqb tags (units + counted)
 
 -- by the lengths of the lent slices
 unfoldable pub sizes-whole : ℕ → ℕ → ℕ → ℕ → Bool
-sizes-whole tags units uses counted = cond (tags-whole tags units counted) (cond (eqb uses units) (rooms-whole units counted 0 0) false) false
+sizes-whole tags units uses counted = tags-whole tags units counted && (eqb uses units && rooms-whole units counted 0 0)
 
 -- ---- question 3: the head is whole
 -- at most 2^53 − 1
@@ -68,7 +68,7 @@ stamps-whole a b c d = (is-stamp a && is-stamp b) && (is-stamp c && is-stamp d)
 
 -- remaining + next = TABLES, or both 0
 unfoldable pub tables-whole : ℕ → ℕ → Bool
-tables-whole remaining next = cond (leb remaining «TABLES») (cond (leb next «TABLES») (cond (eqb (remaining + next) «TABLES») true (eqb (remaining + next) 0)) false) false
+tables-whole remaining next = leb remaining «TABLES» && (leb next «TABLES» && (eqb (remaining + next) «TABLES» || eqb (remaining + next) 0))
 
 unfoldable pub head-whole : Shedder → Bool
 head-whole h =
@@ -77,7 +77,7 @@ head-whole h =
 
 -- ---- question 4: the lent slices have the capacities noted at the start
 unfoldable pub memory-whole : Shedder → ℕ → ℕ → ℕ → ℕ → Bool
-memory-whole h tags units uses counted = cond (tags-whole tags units counted) (cond (eqb units (h .«unit_room»)) (cond (eqb uses (h .«unit_room»)) (eqb counted (h .«counted_room»)) false) false) false
+memory-whole h tags units uses counted = tags-whole tags units counted && (eqb units (h .«unit_room») && (eqb uses (h .«unit_room») && eqb counted (h .«counted_room»)))
 
 -- ---- question 5: each cost is at most 2^40 (question 6 is `is-stamp` of the stamp)
 unfoldable pub costs-held : List ℕ → Bool

@@ -27,6 +27,7 @@ use Rattle.sender.specs.declared.Name.{Name}
 use Rattle.sender.specs.Sender.{name-of}
 use Rattle.store.specs.Store.{Rows, rows}
 use Rattle.wants.specs.Wants.{Hist}
+use Rattle.ieee.proofs.Tests.{both-yes}
 use Rattle.head.specs.declared.Shedder.{Shedder}
 use Rattle.head.specs.declared.Cause.{Cause}
 use Rattle.head.specs.Questions.{is-rate, is-max, all-rates, is-unbounded, rates-whole, head-whole, start-asked, judge-asked, cut-asked}
@@ -53,11 +54,7 @@ of-max n e = top (eqb-true n 18446744073709551615 e)
 
 of-rate : (n : ℕ) → is-rate n ≡ true → Rate n
 unfolding is-rate
-of-rate n e = go (leb 1 n) refl e
-  where
-    go : (b : Bool) → leb 1 n ≡ b → cond b (leb n 1099511627776) false ≡ true → Rate n
-    go true f e = some (leb-true 1 n f) (omega (arith, leb-true n 1099511627776 e))
-    go false f e = absurd (true≢false (sym e))
+of-rate n e = let y = both-yes (leb 1 n) (leb n 1099511627776) e in some (leb-true 1 n (y .0)) (omega (arith, leb-true n 1099511627776 (y .1)))
 
 each-rate : (rate : List ℕ) → rates-whole rate ≡ true → (d : ℕ) → d < dims → Rate (getD rate d 0)
 unfolding is-unbounded all-rates

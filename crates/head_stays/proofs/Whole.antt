@@ -12,7 +12,8 @@ use Rattle.wants.specs.Wants.{Hist}
 use Rattle.wants.specs.Wants as wants
 use Rattle.head.specs.declared.Shedder.{Shedder}
 use Rattle.head.specs.Questions.{rates-whole, is-stamp, tables-whole, rooms-whole, stamps-whole, head-whole, tags-whole, memory-whole, sizes-whole, start-asked, judge-asked, cut-asked}
-use Rattle.head.proofs.Tests.{zero-yes, yes-yes, both}
+use Rattle.ieee.proofs.Tests.{both-yes}
+use Rattle.head.proofs.Tests.{zero-yes, both}
 use Rattle.head.proofs.Whole.{Whole, tables-is, tables-sum}
 use Rattle.head.specs.Start.{Beginning, opening, start}
 use Rattle.scan_trim.specs.Trimming.{trimmed}
@@ -34,9 +35,9 @@ cut-memory h i u s k cost e =
 pub memory-counted : (h : Shedder) (i u s k : ℕ) → memory-whole h i u s k ≡ true → k ≡ h .«counted_room»
 unfolding memory-whole
 memory-counted h i u s k e =
-    let a = yes-yes (tags-whole i u k) _ e in
-    let b = yes-yes (eqb u (h .«unit_room»)) _ (a .1) in
-    let d = yes-yes (eqb s (h .«unit_room»)) _ (b .1) in
+    let a = both-yes (tags-whole i u k) _ e in
+    let b = both-yes (eqb u (h .«unit_room»)) _ (a .1) in
+    let d = both-yes (eqb s (h .«unit_room»)) _ (b .1) in
     eqb-true k (h .«counted_room») (d .1)
 
 -- ---- a start
@@ -45,8 +46,8 @@ unfolding start-asked sizes-whole opening head-whole stamps-whole is-stamp table
 opening-whole rate ceiling tags units uses counted e =
     let a = zero-yes (rates-whole rate) _ 0 e in
     let b = zero-yes (sizes-whole tags units uses counted) 0 1 (a .1) in
-    let d = yes-yes (tags-whole tags units counted) _ (b .0) in
-    let f = yes-yes (eqb uses units) _ (d .1) in
+    let d = both-yes (tags-whole tags units counted) _ (b .0) in
+    let f = both-yes (eqb uses units) _ (d .1) in
     both (rates-whole rate && true) (true && rooms-whole units counted 0 0) (both (rates-whole rate) true (a .0) refl) (f .1)
 
 start-case : (b : Bool) (x y : Beginning) → (b ≡ true → head-whole (x .head) ≡ true) → head-whole (y .head) ≡ true → head-whole (cond b x y .head) ≡ true

@@ -8,6 +8,7 @@ use lib.Ieee.{Float, nan, inf, fin, up, down, below, level, eq, ne, lt}
 use borrow.Author.Tests.{eqb-true, eq-eqb, le-ltb}
 use Rattle.ieee.specs.Units.{Amount, Is}
 use Rattle.ieee.specs.Extremes.{least, most, clamped}
+use Rattle.ieee.proofs.Tests.{both-yes}
 use Rattle.ieee.proofs.Order.{recount, lt-test, min-is, max-is}
 
 -- ---- a not-a-number: it alone is unequal to itself, and it is neither below nor above any value
@@ -78,20 +79,16 @@ most-nan x y h =
     (some (c .0), some (c .1))
 
 -- ---- of two equal values the first: of -0 and +0 the one that stands first
-both : (a b : Bool) → a && b ≡ true → (a ≡ true) × (b ≡ true)
-both true b e = (refl, e)
-both false b e = absurd (true≢false (sym e))
-
 level-below : (s t : Bool) (a b : ℕ) → level s a t b ≡ true → (below s a t b ≡ false) × (below t b s a ≡ false)
-level-below false false a b e = let h = eqb-true a b (both (eqb a b) true e .0) in (le-ltb a b (omega arith), le-ltb b a (omega arith))
-level-below true true a b e = let h = eqb-true a b (both (eqb a b) true e .0) in (le-ltb b a (omega arith), le-ltb a b (omega arith))
+level-below false false a b e = let h = eqb-true a b (both-yes (eqb a b) true e .0) in (le-ltb a b (omega arith), le-ltb b a (omega arith))
+level-below true true a b e = let h = eqb-true a b (both-yes (eqb a b) true e .0) in (le-ltb b a (omega arith), le-ltb a b (omega arith))
 level-below true false a b e =
-    let h = eqb-true a b (both (eqb a b) (eqb a 0) e .0) in
-    let z = eqb-true a 0 (both (eqb a b) (eqb a 0) e .1) in
+    let h = eqb-true a b (both-yes (eqb a b) (eqb a 0) e .0) in
+    let z = eqb-true a 0 (both-yes (eqb a b) (eqb a 0) e .1) in
     (le-ltb 0 (a + b) (omega arith), refl)
 level-below false true a b e =
-    let h = eqb-true a b (both (eqb a b) (eqb a 0) e .0) in
-    let z = eqb-true a 0 (both (eqb a b) (eqb a 0) e .1) in
+    let h = eqb-true a b (both-yes (eqb a b) (eqb a 0) e .0) in
+    let z = eqb-true a 0 (both-yes (eqb a b) (eqb a 0) e .1) in
     (refl, le-ltb 0 (b + a) (omega arith))
 
 equal-below : (x y : Float) → eq x y ≡ true → (is-nan x ≡ false) × ((lt x y ≡ false) × (lt y x ≡ false))

@@ -16,10 +16,6 @@ pub unbounded-is : (r : List ℕ) → page.is-unbounded r ≡ asked.is-unbounded
 unfolding page.is-unbounded asked.is-unbounded asked.is-max
 unbounded-is r = refl
 
-pub and-is : (a b : Bool) → (a && b) ≡ cond a b false
-and-is true b = refl
-and-is false b = refl
-
 pub and-assoc : (a b c : Bool) → ((a && b) && c) ≡ (a && (b && c))
 and-assoc true b c = refl
 and-assoc false b c = refl
@@ -33,7 +29,7 @@ ltb-not a b = elim (decLe a b) [ yes h ↦ rw (le-ltb b a h, le-leb a b h) refl 
 
 pub rates-is : (r : List ℕ) → page.rates-whole r ≡ asked.rates-whole r
 unfolding page.rates-whole page.is-unbounded asked.is-unbounded asked.is-max asked.all-rates asked.is-rate
-rates-is r = simp and-is
+rates-is r = refl
 
 pub stamp-is : (t : ℕ) → page.is-stamp t ≡ asked.is-stamp t
 unfolding page.is-stamp asked.is-stamp
@@ -43,16 +39,9 @@ pub costs-is : (cost : List ℕ) → page.costs-held cost ≡ asked.costs-held c
 unfolding page.costs-held asked.costs-held
 costs-is cost = refl
 
-and-back : (a b : Bool) → cond a b false ≡ (a && b)
-and-back a b = sym (and-is a b)
-
-or-back : (a b : Bool) → cond a true b ≡ (a || b)
-or-back true b = refl
-or-back false b = refl
-
 pub head-is : (h : Shedder) → page.head-whole h ≡ asked.head-whole h
 unfolding page.head-whole page.rooms-whole asked.head-whole asked.stamps-whole asked.tables-whole asked.rooms-whole
-head-is h = simp (rates-is, stamp-is, below-is, and-back, or-back, and-assoc)
+head-is h = simp (rates-is, stamp-is, below-is, and-assoc)
 
 -- ---- the memory
 same-room : (a b r : ℕ) (x : Bool) → (eqb b a && (eqb a r && x)) ≡ (eqb a r && (eqb b r && x))
@@ -68,7 +57,7 @@ same-room a b r x = go (eqb a r) refl
 
 pub memory-is : (s : State) → page.memory-whole s ≡ asked.memory-whole (s .head) (length (s .rows .tags)) (length (s .rows .units)) (length (s .rows .uses)) (length (s .counted))
 unfolding page.memory-whole page.records-whole asked.memory-whole asked.tags-whole
-memory-is s = simp (and-back, and-assoc, same-room)
+memory-is s = simp (and-assoc, same-room)
 
 kept-one : (c : ℕ) → (leb 2 c && (leb c 4097 && ltb 0 c)) ≡ (leb 2 c && leb c 4097)
 kept-one c = elim (decLe 2 c) [ yes h ↦ rw (lt-ltb 0 c (omega (arith, h)), le-leb 2 c h) (last (leb c 4097)) | no h ↦ rw (lt-leb 2 c (omega (arith, h))) refl ]
@@ -79,4 +68,4 @@ kept-one c = elim (decLe 2 c) [ yes h ↦ rw (lt-ltb 0 c (omega (arith, h)), le-
 
 pub sizes-is : (s : State) → (page.records-whole s && page.rooms-whole (length (s .rows .units)) (length (s .counted))) ≡ asked.sizes-whole (length (s .rows .tags)) (length (s .rows .units)) (length (s .rows .uses)) (length (s .counted))
 unfolding page.records-whole page.rooms-whole asked.sizes-whole asked.tags-whole asked.rooms-whole
-sizes-is s = simp (below-is, leb·zero, and-back, and-assoc, kept-one)
+sizes-is s = simp (below-is, leb·zero, and-assoc, kept-one)

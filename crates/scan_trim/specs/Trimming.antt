@@ -1,6 +1,6 @@
 -- The level that a scan found, trimmed: the trim follows the rate admitted since the last reading, and stays in 0.5 to 1. Definitions only.
 use Prim.Native.Nat.{ℕ, _-_}
-use mathlib.Core.Bool.{Bool, false, cond}
+use mathlib.Core.Bool.{Bool, cond, _&&_}
 use mathlib.Core.List.{List}
 use lib.Ieee as Ieee
 use lib.Ieee.{Float, binary64, ofBits}
@@ -31,7 +31,7 @@ scan-then h s tracked visits level = record {
 
 -- below +infinity (1 / 0) and above −infinity
 unfoldable pub is-finite : Float → Bool
-is-finite x = cond (x ⊲ one ⊘ nothing) (Ieee.neg one ⊘ nothing ⊲ x) false
+is-finite x = x ⊲ one ⊘ nothing && Ieee.neg one ⊘ nothing ⊲ x
 
 -- 0.05: the most that the trim moves the level in one scan
 abbrev pub «TRIM_STEP» : Float

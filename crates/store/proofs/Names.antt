@@ -1,21 +1,18 @@
 -- The name that a record holds: tag and words that pass the tests are equal; one added, and one whose use is put back. Assumes nothing.
-use mathlib.Core.Path.{_≡_, refl, sym, _∙_}
+use mathlib.Core.Path.{_≡_, refl, _∙_}
 use Prim.Native.Nat.{ℕ, _<_}
-use mathlib.Core.Bool.{Bool, true, false, cond, true≢false}
+use mathlib.Core.Bool.{true}
 use mathlib.Core.List.{List, []}
 use native.Mathlib.Omega.{arith}
 use lib.Dec.{eqb}
 use lib.ListN.{length, getD, set}
 use lib.Seq.{getD-set-same, getD-set-other}
 use borrow.Author.Tests.{eqb-true}
+use Rattle.ieee.proofs.Tests.{both-yes}
 use Rattle.flow.specs.declared.Use.{Use}
 use Rattle.sender.specs.declared.Name.{Name}
 use Rattle.sender.specs.declared.Words.{Words}
 use Rattle.store.specs.Store.{Rows, same, is-at, unit-row, words-at, name-at, added, units-put}
-
-both : (b x : Bool) → cond b x false ≡ true → (b ≡ true) × (x ≡ true)
-both true x e = (refl, e)
-both false x e = absurd (true≢false (sym e))
 
 words-ext : (a b c d e a' b' c' d' e' : ℕ) → a ≡ a' → b ≡ b' → c ≡ c' → d ≡ d' → e ≡ e' → _≡_ {A = Words} (record { kind = a; a = b; b = c; c = d; d = e }) (record { kind = a'; a = b'; b = c'; c = d'; d = e' })
 words-ext a b c d e a' b' c' d' e' p q r s t = cc
@@ -26,17 +23,18 @@ name-ext a a' w w' p q = cc
 pub words-same : (v w : Words) → same v w ≡ true → v ≡ w
 unfolding same
 words-same v w e =
-    let a = both (eqb (v .kind) (w .kind)) _ e in
-    let b = both (eqb (v .a) (w .a)) _ (a .1) in
-    let c = both (eqb (v .b) (w .b)) _ (b .1) in
-    let d = both (eqb (v .c) (w .c)) _ (c .1) in
-    words-ext (v .kind) (v .a) (v .b) (v .c) (v .d) (w .kind) (w .a) (w .b) (w .c) (w .d) (eqb-true (v .kind) (w .kind) (a .0)) (eqb-true (v .a) (w .a) (b .0)) (eqb-true (v .b) (w .b) (c .0)) (eqb-true (v .c) (w .c) (d .0)) (eqb-true (v .d) (w .d) (d .1))
+    let d = both-yes _ (eqb (v .d) (w .d)) e in
+    let c = both-yes _ (eqb (v .c) (w .c)) (d .0) in
+    let b = both-yes _ (eqb (v .b) (w .b)) (c .0) in
+    let a = both-yes (eqb (v .kind) (w .kind)) (eqb (v .a) (w .a)) (b .0) in
+    words-ext (v .kind) (v .a) (v .b) (v .c) (v .d) (w .kind) (w .a) (w .b) (w .c) (w .d)
+    (eqb-true (v .kind) (w .kind) (a .0)) (eqb-true (v .a) (w .a) (a .1)) (eqb-true (v .b) (w .b) (b .1)) (eqb-true (v .c) (w .c) (c .1)) (eqb-true (v .d) (w .d) (d .1))
 
 -- a record that is the unit's holds its name
 pub at-name : (tags : List ℕ) (units : List (List ℕ)) (name : Name) (i : ℕ) → is-at tags units name i ≡ true → name-at tags units i ≡ name
 unfolding is-at
 at-name tags units name i e =
-    let a = both (eqb (getD tags i 0) (name .tag)) _ e in
+    let a = both-yes (eqb (getD tags i 0) (name .tag)) _ e in
     name-ext (getD tags i 0) (name .tag) (words-at units i) (name .words) (eqb-true (getD tags i 0) (name .tag) (a .0)) (words-same (words-at units i) (name .words) (a .1))
 
 -- one just added does

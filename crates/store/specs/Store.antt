@@ -1,7 +1,7 @@
 -- Rows of lent memory: where a record's parts lie, finding, adding, and the table of a record. Definitions only.
 use Prim.Native.Nat.{ℕ, zero, suc, _+_, _-_, _%_, _^_, _<_, _≤_}
 use mathlib.Core.Path.{_≡_}
-use mathlib.Core.Bool.{Bool, false, cond}
+use mathlib.Core.Bool.{Bool, false, cond, _&&_}
 use mathlib.Core.List.{List, [], _∷_}
 use lib.Dec.{eqb, ltb}
 use lib.ListN.{getD, set, replicate}
@@ -81,13 +81,11 @@ added m i name u = record {
 -- ---- find
 -- the same unit: raw words are compared
 unfoldable pub same : Words → Words → Bool
-same v w =
-    cond (eqb (v .kind) (w .kind))
-    (cond (eqb (v .a) (w .a)) (cond (eqb (v .b) (w .b)) (cond (eqb (v .c) (w .c)) (eqb (v .d) (w .d)) false) false) false) false
+same v w = eqb (v .kind) (w .kind) && eqb (v .a) (w .a) && eqb (v .b) (w .b) && eqb (v .c) (w .c) && eqb (v .d) (w .d)
 
 -- the record at i is the unit's: tag and words; one whose tag is not its unit's is not found
 unfoldable pub is-at : List ℕ → List (List ℕ) → Name → ℕ → Bool
-is-at tags units name i = cond (eqb (getD tags i 0) (name .tag)) (same (words-at units i) (name .words)) false
+is-at tags units name i = eqb (getD tags i 0) (name .tag) && same (words-at units i) (name .words)
 
 -- the first of n at which p holds, else n
 unfoldable pub first : (ℕ → Bool) → ℕ → ℕ

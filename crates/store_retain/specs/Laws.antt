@@ -3,7 +3,7 @@
 use Rattle.flow.specs.Flow.{dims}
 use Prim.Native.Nat.{ℕ, zero, suc, _+_, _≤_, _<_}
 use mathlib.Core.Path.{_≡_}
-use mathlib.Core.Bool.{Bool, false, cond}
+use mathlib.Core.Bool.{Bool, cond, _&&_}
 use mathlib.Core.List.{List, [], _∷_, _++_}
 use lib.Dec.{eqb, ltb}
 use lib.Ieee.{Float, binary64, ofBits}
@@ -31,7 +31,7 @@ zero-bits = record { tag = 0; words = replicate 7 0; floats = replicate (dims + 
 
 -- it stands in the table, and the scan's stamp − its stamp exceeds 8,000. The number is written out: a law that cited the constant would hold of another one too
 unfoldable pub stale : ℕ → ℕ → Record → Bool
-stale table scan r = cond (eqb (table-of-tag (r .tag)) table) (ltb (getD (r .words) 5 0 + 8000) scan) false
+stale table scan r = eqb (table-of-tag (r .tag)) table && ltb (getD (r .words) 5 0 + 8000) scan
 
 -- those of which p does not hold, in their order
 unfoldable pub without : (Record → Bool) → List Record → List Record

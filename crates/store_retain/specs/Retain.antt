@@ -1,6 +1,6 @@
 -- The records of one table that are stale are dropped, the others stay in their order. Definitions only.
 use Prim.Native.Nat.{ℕ, zero, suc, _+_, _-_, _*_}
-use mathlib.Core.Bool.{Bool, false, cond}
+use mathlib.Core.Bool.{Bool, cond, _&&_}
 use mathlib.Core.List.{List, []}
 use lib.Dec.{ltb}
 use lib.ListN.{getD, set, replicate}
@@ -18,7 +18,7 @@ is-old scan at = ltb «RETAIN_MS» (scan - at)
 
 -- of the table, and old
 unfoldable pub is-stale : List ℕ → List (List ℕ) → ℕ → ℕ → ℕ → Bool
-is-stale tags units table scan i = cond (in-table tags table i) (is-old scan (stamp-at units i)) false
+is-stale tags units table scan i = in-table tags table i && is-old scan (stamp-at units i)
 
 -- a freed place is zero bits
 unfoldable pub freed : Rows → ℕ → Rows

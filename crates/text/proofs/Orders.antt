@@ -1,6 +1,6 @@
 -- Laws of `same` and `less`: a step at an index, and that `same` is equality. Assumes nothing.
 use mathlib.Core.Path.{_≡_, refl, sym, ap, _∙_}
-use mathlib.Core.Bool.{Bool, true, false, cond, false≢true}
+use mathlib.Core.Bool.{Bool, true, false, cond, _&&_, false≢true}
 use mathlib.Core.List.{List, [], _∷_}
 use Prim.Native.Nat.{ℕ, suc, _+_, _≤_, _<_}
 use native.Mathlib.Numerals.{add-one}
@@ -14,7 +14,7 @@ use Rattle.text.specs.Order.{same, less}
 
 -- of two strings that go on at index i
 module _ (a b : List ℕ) (i : ℕ) (ha : i < length a) (hb : i < length b) where
-  pub same-at : same (drop i a) (drop i b) ≡ cond (eqb (getD a i 0) (getD b i 0)) (same (drop (i + 1) a) (drop (i + 1) b)) false
+  pub same-at : same (drop i a) (drop i b) ≡ (eqb (getD a i 0) (getD b i 0) && same (drop (i + 1) a) (drop (i + 1) b))
   unfolding same
   same-at = rw (add-one, drop-cons a i 0, drop-cons b i 0)
 
@@ -34,7 +34,7 @@ same-length [] (y ∷ b) n = refl
 same-length (x ∷ a) [] n = refl
 same-length (x ∷ a) (y ∷ b) n = shorter (eqb x y) (same-length a b (λ e. n (ap suc e)))
   where
-    shorter : (t : Bool) {s : Bool} → s ≡ false → cond t s false ≡ false
+    shorter : (t : Bool) {s : Bool} → s ≡ false → t && s ≡ false
     shorter true e = e
     shorter false e = refl
 
@@ -43,9 +43,9 @@ unfolding same
 same-refl [] = refl
 same-refl (x ∷ a) = simp (eq-eqb x x refl) (same-refl a)
 
-pub cond-true : (t s : Bool) → cond t s false ≡ true → (t ≡ true) × (s ≡ true)
-cond-true true s e = (refl, e)
-cond-true false s e = absurd (false≢true e)
+pub both-yes : (t s : Bool) → t && s ≡ true → (t ≡ true) × (s ≡ true)
+both-yes true s e = (refl, e)
+both-yes false s e = absurd (false≢true e)
 
 pub same-eq : (a b : List ℕ) → same a b ≡ true → a ≡ b
 unfolding same
@@ -53,7 +53,7 @@ same-eq [] [] e = refl
 same-eq [] (y ∷ b) e = absurd (false≢true e)
 same-eq (x ∷ a) [] e = absurd (false≢true e)
 same-eq (x ∷ a) (y ∷ b) e =
-    let w = cond-true (eqb x y) (same a b) e in
+    let w = both-yes (eqb x y) (same a b) e in
     let h = same-eq a b (w .1) in
     let k = eqb-true x y (w .0) in
     cc

@@ -5,7 +5,7 @@ use mathlib.Core.List.{List, [], _∷_, _++_}
 use Prim.Native.Nat.{ℕ, zero, suc}
 use Rattle.text.specs.Number.{numeral, decimal}
 use Rattle.text.specs.Order.{same}
-use Rattle.text.proofs.Orders.{same-eq, cond-true}
+use Rattle.text.proofs.Orders.{same-eq, both-yes}
 use Rattle.label.specs.Label.{label}
 use Rattle.label_parse.specs.Parse.{is-label, unit-in}
 use Rattle.trial_script.specs.declared.Line as script
@@ -72,7 +72,7 @@ numbers-text : (k : ℕ) (s : List ℕ) → are-numbers k s ≡ true → spaced 
 unfolding are-numbers number-at spaced texts
 numbers-text zero s e = ap (λ (l : List ℕ). decimal (number-in l)) (number-first s e) ∙ number-text s e
 numbers-text (suc k) s e =
-    let w = cond-true (is-number (first s)) (are-numbers k (rest s)) e in
+    let w = both-yes (is-number (first s)) (are-numbers k (rest s)) e in
     seam s (decimal (number-in (first s))) (spaced (decimal (number-at 0 (rest s))) (texts k (rest s)))
     (number-text (first s) (w .0)) (numbers-text k (rest s) (w .1)) (numbers-some k (rest s) (w .1))
 

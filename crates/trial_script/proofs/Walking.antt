@@ -1,6 +1,6 @@
 -- Laws of the fields as the code walks over them: the width, a number and one digit more, several numbers. Assumes nothing.
 use mathlib.Core.Path.{_≡_, refl, sym, _∙_}
-use mathlib.Core.Bool.{true, false, cond}
+use mathlib.Core.Bool.{true, false, cond, _&&_}
 use mathlib.Core.List.{List}
 use Prim.Native.Nat.{ℕ, zero, suc, _+_, _-_, _*_, _≤_, _<_}
 use native.Mathlib.Numerals.{add-one}
@@ -63,7 +63,7 @@ pub are-none : (s : List ℕ) (more : ℕ) → more ≡ 0 → is-number s ≡ ar
 unfolding are-numbers
 are-none s more e = rw e refl
 
-pub are-more : (s : List ℕ) (more : ℕ) → (more ≡ 0 → ⊥) → are-numbers more s ≡ cond (is-number (first s)) (are-numbers (more - 1) (rest s)) false
+pub are-more : (s : List ℕ) (more : ℕ) → (more ≡ 0 → ⊥) → are-numbers more s ≡ (is-number (first s) && are-numbers (more - 1) (rest s))
 unfolding are-numbers
 are-more s zero n = absurd (n refl)
 are-more s (suc more) n = let e : suc more - 1 ≡ more = omega arith in rw e refl

@@ -1,6 +1,6 @@
 -- The fields of a line, which are its parts between single spaces, and the numbers in them. Definitions only.
 use Prim.Native.Nat.{ℕ, zero, suc, _+_, _-_, _*_, _^_}
-use mathlib.Core.Bool.{Bool, false, cond}
+use mathlib.Core.Bool.{Bool, cond, _&&_}
 use mathlib.Core.List.{List, [], _∷_}
 use lib.Dec.{eqb, ltb}
 use lib.ListN.{take, drop}
@@ -37,7 +37,7 @@ is-number s = same (decimal (number-in s)) s
 -- whether s is a number and `more` numbers behind it, each after one space
 unfoldable pub are-numbers : ℕ → List ℕ → Bool
 are-numbers zero s = is-number s
-are-numbers (suc more) s = cond (is-number (first s)) (are-numbers more (rest s)) false
+are-numbers (suc more) s = is-number (first s) && are-numbers more (rest s)
 
 -- the number in the field of index k
 unfoldable pub number-at : ℕ → List ℕ → ℕ

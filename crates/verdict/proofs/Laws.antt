@@ -139,6 +139,7 @@ module _ (bs : List Bucket) (u : Use) (now elapsed : ℕ) (cost fill level : Lis
         (paid (bucket-at full d .tokens) (at cost d) n a top few price (asked .tokened e d small));
     credit = λ a top.
         subst (λ (x : Float). Is x (units (at (credited u now fill .credit) d) - n * power 1074))
-        (sym (ap (λ (u : Use). at (u .credit) d) (settled-paid decision full (met u now fill cost) cost (sym told ∙ e) .1) ∙ each-at (λ (d : ℕ). Ieee.sub binary64 (at (credited u now fill .credit) d) (at cost d)) (credited u now fill .credit) d small (upto-length _ dims (u .credit) ∙ wide)))
+        (sym (ap (λ (u : Use). at (u .credit) d) (settled-paid decision full (met u now fill cost) cost (sym told ∙ e) .1)
+        ∙ each-at (λ (d : ℕ). Ieee.sub binary64 (at (credited u now fill .credit) d) (at cost d)) (credited u now fill .credit) d small (upto-length _ dims (u .credit) ∙ wide)))
         (paid (at (credited u now fill .credit) d) (at cost d) n a top few price (asked .credited e d small));
   }
