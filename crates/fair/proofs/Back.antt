@@ -1,5 +1,5 @@
 -- What is put is read back: a use put at a place, and a record added at the end. Assumes nothing.
-use mathlib.Core.Path.{_≡_, refl, sym, ap, _∙_}
+use mathlib.Core.Path.{_≡_, sym, ap, _∙_}
 use Prim.Native.Nat.{ℕ, _+_, _-_, _<_}
 use native.Mathlib.Omega.{arith}
 use mathlib.Core.List.{List, [], _∷_, _++_}
@@ -16,7 +16,7 @@ use Rattle.sender.specs.declared.Name.{Name}
 use Rattle.store.specs.Store.{Rows, rows, part, picked, joined, unit-row, words-at, name-at, use-at, units-put, uses-put, added}
 use Rattle.store.proofs.Names.{words-put}
 use Rattle.fair.proofs.View as view
-use Rattle.store.proofs.Places.{Same}
+use Rattle.store.proofs.Places.{Same, added-other, put-other}
 use Rattle.fair.proofs.Sweep as pass
 
 -- ---- floats
@@ -101,10 +101,6 @@ module _ (room : ℕ) where
 
   -- ---- a record added at the end of the live ones
   module _ (m : Rows) (n : ℕ) (w : Name) (u : Use) (whole : Whole u) (hi : n < length (m .tags)) (hu : n < length (m .units)) (hs : n < length (m .uses)) where
-    pub added-other : (j : ℕ) → (j ≡ n → ⊥) → Same (added m n w u) j m j
-    unfolding Same added
-    added-other j h = (rw getD-set-other, rw getD-set-other, rw getD-set-other)
-
     pub added-there : record-at (added m n w u) n ≡ row w u
     unfolding view.record-at added words-at use-at
     added-there =
@@ -117,7 +113,7 @@ module _ (room : ℕ) where
     pub added-listed : listed (added m n w u) (n + 1) ≡ listed m n ++ (row w u ∷ [])
     added-listed =
         listed-next (added m n w u) n
-        ∙ ap (λ (x : List R′). x ++ (record-at (added m n w u) n ∷ [])) (listed-same (added m n w u) m n (λ j h. record-same (added m n w u) j m j (added-other j (λ q. absurd (omega arith)))))
+        ∙ ap (λ (x : List R′). x ++ (record-at (added m n w u) n ∷ [])) (listed-same (added m n w u) m n (λ j h. record-same (added m n w u) j m j (added-other m n w u j (λ q. absurd (omega arith)))))
         ∙ ap (λ (r : R′). listed m n ++ (r ∷ [])) added-there
 
   -- ---- a use put at a place of the live ones: that record has the use, every other record is as it was
@@ -125,12 +121,8 @@ module _ (room : ℕ) where
     abbrev putted : Rows
     putted = rows (m .tags) (units-put (m .units) i u) (uses-put (m .uses) i u)
 
-    put-other : (j : ℕ) → (j ≡ i → ⊥) → Same putted j m j
-    unfolding Same units-put uses-put
-    put-other j h = (refl, rw getD-set-other, rw getD-set-other)
-
     pub put-elsewhere : (j : ℕ) → (j ≡ i → ⊥) → record-at (rows (m .tags) (units-put (m .units) i u) (uses-put (m .uses) i u)) j ≡ record-at m j
-    put-elsewhere j h = record-same putted j m j (put-other j h)
+    put-elsewhere j h = record-same putted j m j (put-other m i u j h)
 
     pub put-there : record-at (rows (m .tags) (units-put (m .units) i u) (uses-put (m .uses) i u)) i ≡ row (name-at (m .tags) (m .units) i) u
     unfolding view.record-at

@@ -18,6 +18,7 @@ use Rattle.flow.specs.declared.Use.{Use}
 use Rattle.sender.specs.declared.Name as sender-name
 use Rattle.sender.specs.declared.Unit as unit
 use Rattle.sender.specs.Sender as sender
+use Rattle.store.proofs.Places.{added-other}
 use Rattle.store.specs.Store as store
 use Rattle.store.specs.Store.{Rows, rows, unit-row, use-at, units-put, uses-put}
 use Rattle.fair.specs.Given as shed
@@ -28,7 +29,7 @@ use Rattle.fair.proofs.View as view
 use Rattle.fair.proofs.View.{Name, same, shares, named, name-of}
 use Rattle.fair.proofs.Sweep as pass
 use Rattle.fair.proofs.Sweep.{Wide}
-use Rattle.store_retain.proofs.Places.{Long, long-join}
+use Rattle.store_retain.proofs.Places.{Long}
 use Rattle.fair.proofs.Back as back
 use Rattle.fair.proofs.Back.{Whole, part-length}
 use Rattle.fair.proofs.Find as finding
@@ -179,7 +180,7 @@ module _ (room : ℕ) where
       new-read = ap (λ (x : view.R room). x .used) new-there
 
       before-new : listed new n ≡ listed m n
-      before-new = pass.listed-same room new m n (λ j h. pass.record-same room new j m j (back.added-other room m n w (flow.added now) (new-whole now) hi hu hs j (λ q. absurd (omega arith))))
+      before-new = pass.listed-same room new m n (λ j h. pass.record-same room new j m j (added-other m n w (flow.added now) j (λ q. absurd (omega arith))))
 
       new-held : Held new (n + 1)
       new-held = held-long m new n (n + 1) hold (added-long m n w (flow.added now)) (omega arith) (added-wide m n w (flow.added now) hu (hold .wide))

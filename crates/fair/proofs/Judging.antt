@@ -1,6 +1,6 @@
 -- A judgement that is not refused: the real state after it is tied to the model's store after the model's judgement. Assumes nothing.
 use mathlib.Core.Path.{_≡_, refl, sym, ap, _∙_, subst}
-use Prim.Native.Nat.{ℕ, suc, _+_, _-_, _^_, _≤_, _<_, max}
+use Prim.Native.Nat.{ℕ, _+_, _-_, _^_, _≤_, _<_, max}
 use native.Mathlib.Nat.{le-of-eq, le-trans}
 use native.Mathlib.Omega.{arith}
 use mathlib.Core.Bool.{Bool, true, false, cond, true≢false}

@@ -1,17 +1,14 @@
 -- After every list of calls from a start, head and memory pass the questions: no list leaves a state that refuses for good. Assumes nothing.
 use mathlib.Core.Path.{_≡_, refl, sym, ap, _∙_, subst}
-use Prim.Native.Nat.{ℕ, zero, suc, _+_, _-_, _≤_, _<_, max}
+use Prim.Native.Nat.{ℕ, _+_, _-_, _≤_, _<_, max}
 use native.Mathlib.Nat.{le-refl}
 use native.Mathlib.Omega.{arith}
-use mathlib.Core.Bool.{Bool, true, false, cond, true≢false, _&&_, _||_}
+use mathlib.Core.Bool.{Bool, true, false, cond, _&&_, _||_}
 use mathlib.Core.List.{List, [], _∷_}
 use lib.Dec.{eqb, ltb}
 use lib.ListN.{length}
-use borrow.Author.Tests.{ltb-true, ltb-false, lt-ltb, le-ltb, le-leb, eq-eqb, ne-eqb, eqb-true}
+use borrow.Author.Tests.{ltb-false, lt-ltb, le-ltb, le-leb, eq-eqb, ne-eqb, eqb-true}
 use Rattle.sender.specs.declared.Unit as unit
-use Rattle.sender.specs.declared.Name.{Name}
-use Rattle.sender.specs.Sender as sender
-use Rattle.store.specs.Store as store
 use Rattle.wants.specs.Wants as wants
 use Rattle.head.specs.declared.Shedder.{Shedder}
 use Rattle.ieee.proofs.Tests.{both-yes}

@@ -10,7 +10,8 @@ use lib.ListN.{length, getD}
 use Rattle.store.specs.Store.{Rows, rows, words-at, use-at}
 use Rattle.store.proofs.Places.{Same}
 use Rattle.store_retain.specs.Retain.{Kept, retained}
-use Rattle.store_retain.specs.Laws.{Record, record-at as lent-at, stale as lent-stale, records, without}
+use Rattle.store.specs.Store.{Record, record-at as lent-at}
+use Rattle.store_retain.specs.Laws.{stale as lent-stale, records, without}
 use Rattle.store_retain.proofs.Places.{Long}
 use Rattle.store_retain.proofs.Laws.{later, retains}
 use Rattle.fair.proofs.View as view

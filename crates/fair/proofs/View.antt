@@ -2,13 +2,12 @@
 use mathlib.Core.Path.{_≡_, refl, sym, ap, _∙_, subst}
 use Prim.Native.Nat.{ℕ, zero, suc, _+_, _-_}
 use native.Mathlib.Numerals.{add-one}
-use mathlib.Core.Bool.{Bool, true, false, cond, _&&_, true≢false}
+use mathlib.Core.Bool.{Bool, true, false, _&&_, true≢false}
 use mathlib.Core.List.{List, [], _∷_, _++_}
 use lib.Dec.{T, eqb, ltb}
-use lib.ListN.{length, getD, length-append}
+use lib.ListN.{length, length-append}
 use borrow.Author.Tests.{eqb-true, eq-eqb}
 use Rattle.flow.specs.declared.Use.{Use}
-use Rattle.sender.specs.declared.Words.{Words}
 use Rattle.sender.specs.declared.Name as sender-name
 use Rattle.sender.specs.Sender as sender
 use Rattle.sender.specs.declared.Unit as unit
@@ -58,17 +57,13 @@ true-of false t = absurd t
 name-ext : (a a' : Bool) (w w' : sender-name.Name) → a ≡ a' → w ≡ w' → _≡_ {A = Name} (record { overflow = a; name = w }) (record { overflow = a'; name = w' })
 name-ext a a' w w' p q = cc
 
-words-self : (v : Words) → store.same v v ≡ true
-unfolding store.same
-words-self v = simp (eq-eqb (v .kind) (v .kind) refl, eq-eqb (v .a) (v .a) refl, eq-eqb (v .b) (v .b) refl, eq-eqb (v .c) (v .c) refl, eq-eqb (v .d) (v .d) refl)
-
 pair-same : (v w : sender-name.Name) → same-name v w ≡ true → v ≡ w
 pair-same v w e =
     let a = both-yes (eqb (w .tag) (v .tag)) _ e in
     stored.name-ext (v .tag) (w .tag) (v .words) (w .words) (sym (eqb-true (w .tag) (v .tag) (a .0))) (sym (stored.words-same (w .words) (v .words) (a .1)))
 
 pair-self : (v : sender-name.Name) → same-name v v ≡ true
-pair-self v = simp (eq-eqb (v .tag) (v .tag) refl, words-self (v .words))
+pair-self v = simp (eq-eqb (v .tag) (v .tag) refl, stored.words-self (v .words))
 
 pub same-is : (u v : Name) → T (same u v) → u ≡ v
 same-is u v t =

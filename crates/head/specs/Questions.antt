@@ -2,7 +2,7 @@
 -- Definitions are shut (`unfoldable`): a proof opens the one that it is about.
 use Prim.Native.Nat.{ℕ, _+_, _^_, _≤_, _<_}
 use mathlib.Core.Path.{_≡_}
-use mathlib.Core.Bool.{Bool, true, false, _&&_, cond, _||_}
+use mathlib.Core.Bool.{Bool, false, _&&_, cond, _||_}
 use mathlib.Core.List.{List}
 use lib.Dec.{eqb, leb, ltb}
 use lib.ListN.{getD}

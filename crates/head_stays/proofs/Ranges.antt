@@ -1,6 +1,6 @@
 -- Trims in 0.5 to 1 and levels of at least 1 are set at a start and stay so (specs/Ranges.antt). Assumes nothing.
 use mathlib.Core.Path.{_≡_, refl, sym, ap, _∙_, subst}
-use mathlib.Core.Bool.{Bool, true, false, cond, true≢false, _||_}
+use mathlib.Core.Bool.{Bool, true, false, cond, _||_}
 use mathlib.Core.List.{List}
 use Prim.Native.Nat.{ℕ, _*_, _^_, _≤_, _<_, max}
 use native.Mathlib.Nat.{le-trans, le-of-eq, mul-le-mul-right}
@@ -18,7 +18,7 @@ use Rattle.ieee.proofs.Value.{one-is}
 use Rattle.ieee.proofs.Order.{le-is}
 use Rattle.ieee.proofs.Laws.{int-is}
 use Rattle.ieee.proofs.Extremes.{least-is}
-use Rattle.flow.specs.Flow.{at, upto, zeros, numbers, dims}
+use Rattle.flow.specs.Flow.{at, zeros, numbers, dims}
 use Rattle.flow.proofs.Parts.{upto-at, all-at}
 use Rattle.verdict.specs.Verdict.{is-admitted}
 use Rattle.verdict.specs.declared.Verdict.{Verdict}
@@ -37,7 +37,7 @@ use Rattle.head.proofs.Whole.{whole-of}
 use Rattle.scan_trim.specs.Laws.{Rates, Trim, Levels}
 use Rattle.scan.specs.Scanning.{scanning}
 use Rattle.scan.proofs.Laws as scans
-use Rattle.cut_counts.specs.Counting.{Tally, tally, added, cause-of, tallied, count-verdict}
+use Rattle.cut_counts.specs.Counting.{tally, added, cause-of, tallied, count-verdict}
 use Rattle.judge.specs.Judging.{flowed, judged, Memory, Judged, bounded, judge}
 use Rattle.cut.specs.Cutting.{KeptBy, kept-by, hands-back, flowed-back, handed-back, Cut, noted, cut-after, cut}
 use Rattle.head_stays.specs.Ranges.{InRange, Ranges}

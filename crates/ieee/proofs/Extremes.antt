@@ -2,7 +2,7 @@
 use mathlib.Core.Path.{_≡_, refl, sym, ap, _∙_}
 use Prim.Native.Nat.{ℕ, _+_, _*_, min, max}
 use native.Mathlib.Omega.{arith}
-use mathlib.Core.Bool.{Bool, true, false, _&&_, cond, true≢false}
+use mathlib.Core.Bool.{Bool, true, false, cond, true≢false}
 use lib.Dec.{eqb}
 use lib.Ieee.{Float, nan, inf, fin, up, down, below, level, eq, ne, lt}
 use borrow.Author.Tests.{eqb-true, eq-eqb, le-ltb}

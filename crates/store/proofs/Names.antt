@@ -1,13 +1,13 @@
 -- The name that a record holds: tag and words that pass the tests are equal; one added, and one whose use is put back. Assumes nothing.
-use mathlib.Core.Path.{_≡_, refl, _∙_}
+use mathlib.Core.Path.{_≡_, refl, _∙_, subst}
 use Prim.Native.Nat.{ℕ, _<_}
-use mathlib.Core.Bool.{true}
+use mathlib.Core.Bool.{true, _&&_}
 use mathlib.Core.List.{List, []}
 use native.Mathlib.Omega.{arith}
 use lib.Dec.{eqb}
 use lib.ListN.{length, getD, set}
 use lib.Seq.{getD-set-same, getD-set-other}
-use borrow.Author.Tests.{eqb-true}
+use borrow.Author.Tests.{eqb-true, eq-eqb}
 use Rattle.ieee.proofs.Tests.{both-yes}
 use Rattle.flow.specs.declared.Use.{Use}
 use Rattle.sender.specs.declared.Name.{Name}
@@ -30,7 +30,15 @@ words-same v w e =
     words-ext (v .kind) (v .a) (v .b) (v .c) (v .d) (w .kind) (w .a) (w .b) (w .c) (w .d)
     (eqb-true (v .kind) (w .kind) (a .0)) (eqb-true (v .a) (w .a) (a .1)) (eqb-true (v .b) (w .b) (b .1)) (eqb-true (v .c) (w .c) (c .1)) (eqb-true (v .d) (w .d) (d .1))
 
--- a record that is the unit's holds its name
+pub words-self : (v : Words) → same v v ≡ true
+unfolding same
+words-self v = simp (eq-eqb (v .kind) (v .kind) refl, eq-eqb (v .a) (v .a) refl, eq-eqb (v .b) (v .b) refl, eq-eqb (v .c) (v .c) refl, eq-eqb (v .d) (v .d) refl)
+
+-- a record is the unit's exactly if it holds its name
+pub name-is-at : (tags : List ℕ) (units : List (List ℕ)) (name : Name) (i : ℕ) → name-at tags units i ≡ name → is-at tags units name i ≡ true
+unfolding is-at
+name-is-at tags units name i e = subst (λ (n : Name). (eqb (getD tags i 0) (n .tag) && same (words-at units i) (n .words)) ≡ true) e (simp (eq-eqb (getD tags i 0) (getD tags i 0) refl, words-self (words-at units i)))
+
 pub at-name : (tags : List ℕ) (units : List (List ℕ)) (name : Name) (i : ℕ) → is-at tags units name i ≡ true → name-at tags units i ≡ name
 unfolding is-at
 at-name tags units name i e =

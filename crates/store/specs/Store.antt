@@ -26,6 +26,15 @@ pub record Rows : Type 0 where
 abbrev pub rows : List ℕ → List (List ℕ) → List (List Float) → Rows
 rows tags units uses = record { tags = tags; units = units; uses = uses }
 
+-- a record: what one place of each list holds. The words of its row are the kind, four words of the unit, the stamp, the fresh mark
+pub record Record : Type 0 where
+  pub tag : ℕ
+  pub words : List ℕ
+  pub floats : List Float
+
+unfoldable pub record-at : Rows → ℕ → Record
+record-at m i = record { tag = getD (m .tags) i 0; words = getD (m .units) i []; floats = getD (m .uses) i [] }
+
 -- ---- a use as floats
 unfoldable pub part : List Float → ℕ → List Float
 part row from = upto (λ (d : ℕ). at row (from + d)) dims (replicate dims nothing)

@@ -6,22 +6,18 @@ use native.Mathlib.Omega.{arith}
 use native.Mathlib.Decide.{ℕ-discrete, decLt}
 use mathlib.Core.Bool.{Bool, true, false, cond}
 use mathlib.Core.List.{List, [], _∷_, _++_}
-use lib.Dec.{eqb, ltb}
+use lib.Dec.{ltb}
 use lib.ListN.{length, length-append}
 use lib.Seq.{getD-set-same, getD-set-other}
 use borrow.Author.Tests.{lt-ltb, le-ltb, ltb-true, ltb-false}
-use Rattle.sender.specs.Sender.{table-of-tag}
 use Rattle.store.specs.Store.{Rows, stamp-at, in-table, table-at}
-use Rattle.store.proofs.Places.{Same, same-self, same-join}
+use Rattle.store.specs.Store.{Record, record-at}
+use Rattle.store.proofs.Places.{Same, same-self, same-join, record-same}
 use Rattle.store_retain.specs.Retain.{Kept, kept, freed, moved, is-old, is-stale, retain-one, retained}
-use Rattle.store_retain.specs.Laws.{Record, record-at, records, zero-bits, stale, without, Drops, Retains}
+use Rattle.store_retain.specs.Laws.{records, zero-bits, stale, without, Drops, Retains}
 use Rattle.store_retain.proofs.Places.{freed-other, moved-other, Long, long-join, Reaches, freed-long, moved-long, moved-there}
 
 -- ---- a place as a record
-record-same : (m : Rows) (i : ℕ) (m' : Rows) (j : ℕ) → Same m i m' j → record-at m i ≡ record-at m' j
-unfolding Same record-at
-record-same m i m' j s = simp (s .0, s .1, s .2)
-
 pub later : (at scan : ℕ) → is-old scan at ≡ ltb (at + 8000) scan
 later at scan = elim (decLt (at + 8000) scan) [
   | yes h ↦ lt-ltb _ (scan - at) (omega arith) ∙ sym (lt-ltb (at + 8000) scan h)

@@ -6,20 +6,11 @@ use mathlib.Core.Path.{_≡_}
 use mathlib.Core.Bool.{Bool, cond, _&&_}
 use mathlib.Core.List.{List, [], _∷_, _++_}
 use lib.Dec.{eqb, ltb}
-use lib.Ieee.{Float, binary64, ofBits}
+use lib.Ieee.{binary64, ofBits}
 use lib.ListN.{length, getD, replicate}
 use Rattle.sender.specs.Sender.{table-of-tag}
-use Rattle.store.specs.Store.{Rows}
+use Rattle.store.specs.Store.{Rows, Record, record-at}
 use Rattle.store_retain.specs.Retain.{Kept, retained}
-
--- a record: what one place of each lent list holds. The words of its row are the kind, four words of the unit, the stamp, the fresh mark
-pub record Record : Type 0 where
-  pub tag : ℕ
-  pub words : List ℕ
-  pub floats : List Float
-
-unfoldable pub record-at : Rows → ℕ → Record
-record-at m i = record { tag = getD (m .tags) i 0; words = getD (m .units) i []; floats = getD (m .uses) i [] }
 
 -- the records at the first n places, in their order
 unfoldable pub records : Rows → ℕ → List Record

@@ -8,7 +8,7 @@ use sender::Name;
 use store::UnitRow;
 
 // Whether the record is the unit's: its tag first, so that a search reads 2 bytes a record.
-pub fn is_at(tags: &[u16], units: &[UnitRow], i: usize, name: Name) -> bool
+fn is_at(tags: &[u16], units: &[UnitRow], i: usize, name: Name) -> bool
     requires { ⌜ i < length (now tags) ⌝ }
     requires { ⌜ i < length (now units) ⌝ }
     ensures { λ r. ⌜ r ≡ store.is-at (now (tags .entry)) (now (units .entry)) name i ⌝ }
