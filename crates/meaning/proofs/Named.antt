@@ -31,7 +31,7 @@ use Rattle.meaning.proofs.Asked.{head-is, memory-is}
 use Rattle.meaning.proofs.Judged.{entry-is, entered as as-page}
 
 -- ---- the record entered: in use, below the room, named; the others, and overflow's, as before
-pub record Fine (s : State) (u : Unit) (x : After ℕ) : Type 0 where
+pub record InItsRecord (s : State) (u : Unit) (x : After ℕ) : Type 0 where
   pub in-use : x .answer < x .state .head .tracked
   pub below : x .answer < length (x .state .rows .units)
   pub room : x .answer < s .head .«unit_room»
@@ -64,15 +64,15 @@ module _ (s : State) (u : Unit) (clock : ℕ) (w : Tracked s u) where
   abbrev e : Entered
   e = entering.entry (s .rows) tracked (s .head .«unit_room») u clock
 
-  found-fine : Has (s .rows) tracked (name-of u) → Fine s u (as-page s e)
-  found-fine h =
+  found-own : Has (s .rows) tracked (name-of u) → InItsRecord s u (as-page s e)
+  found-own h =
       let f = owns (s .rows) tracked (s .head .«unit_room») u clock (fits s u w) .found (w .own) h in
       let x = fits s u w in
-      subst (λ (y : Entered). Fine s u (as-page s y)) (sym (f .kept))
+      subst (λ (y : Entered). InItsRecord s u (as-page s y)) (sym (f .kept))
       (record { in-use = f .in-use; below = omega (arith, f .in-use, x .units, x .used); room = omega (arith, f .in-use, x .used); named = f .named; others = λ j q. refl; overflow = refl })
 
-  added-fine : (Has (s .rows) tracked (name-of u) → ⊥) → tracked < s .head .«unit_room» → Fine s u (as-page s e)
-  added-fine lacks l =
+  added-own : (Has (s .rows) tracked (name-of u) → ⊥) → tracked < s .head .«unit_room» → InItsRecord s u (as-page s e)
+  added-own lacks l =
       let f = owns (s .rows) tracked (s .head .«unit_room») u clock (fits s u w) .added (w .own) lacks l in
       let x = fits s u w in
       let at : e .place .at ≡ tracked = ap (λ (p : Place). p .at) (f .behind) in
@@ -86,11 +86,11 @@ module _ (s : State) (u : Unit) (clock : ℕ) (w : Tracked s u) where
         overflow = refl;
       }
 
-  fine : Fine s u (page.entry s u clock)
-  fine =
-      subst (Fine s u) (sym (entry-is s u clock))
-      (⊎-elim (λ (h : Has (s .rows) tracked (name-of u)). found-fine h) (λ (l : tracked < s .head .«unit_room»).
-      ⊎-elim (λ (h : Has (s .rows) tracked (name-of u)). found-fine h) (λ (n : Has (s .rows) tracked (name-of u) → ⊥). added-fine n l) (has-or-not (s .rows) tracked (name-of u))) (w .found-or-added))
+  in-its-record : InItsRecord s u (page.entry s u clock)
+  in-its-record =
+      subst (InItsRecord s u) (sym (entry-is s u clock))
+      (⊎-elim (λ (h : Has (s .rows) tracked (name-of u)). found-own h) (λ (l : tracked < s .head .«unit_room»).
+      ⊎-elim (λ (h : Has (s .rows) tracked (name-of u)). found-own h) (λ (n : Has (s .rows) tracked (name-of u) → ⊥). added-own n l) (has-or-not (s .rows) tracked (name-of u))) (w .found-or-added))
 
 -- ---- the use put back there
 put-rows : (y : State) (i : ℕ) (x : Use) → i < length (y .rows .units) → page.put-back y i x .rows ≡ rows (y .rows .tags) (store.units-put (y .rows .units) i x) (store.uses-put (y .rows .uses) i x)
@@ -107,7 +107,7 @@ uses : (s : State) (u : Unit) (clock : ℕ) (next : Use → Use) (w : Tracked s 
 uses s u clock next w y x p q r =
     let i = place s u clock in
     let t = entered s u clock in
-    let f = fine s u clock w in
+    let f = in-its-record s u clock w in
     let m = t .rows in
     let long : i < length (y .rows .units) = subst (λ (a : Rows). i < length (a .units)) (sym p) (f .below) in
     let put = put-rows y i x long ∙ ap (λ (a : Rows). rows (a .tags) (store.units-put (a .units) i x) (store.uses-put (a .uses) i x)) p in
@@ -122,10 +122,10 @@ uses s u clock next w y x p q r =
 module _ (s : State) (u : Unit) (cost : List Float) (clock : ℕ) (w : Tracked s u) where
   found-use : page.used-at (entered s u clock) (place s u clock) ≡ use-in (entered s u clock) (place s u clock)
   unfolding page.used-at
-  found-use = simp (lt-ltb (place s u clock) (length (entered s u clock .rows .units)) (fine s u clock w .below))
+  found-use = simp (lt-ltb (place s u clock) (length (entered s u clock .rows .units)) (in-its-record s u clock w .below))
 
   ranked : cond (ltb (place s u clock) (s .head .«unit_room»)) (rank u) (rank units.Overflow) ≡ rank u
-  ranked = simp (lt-ltb (place s u clock) (s .head .«unit_room») (fine s u clock w .room))
+  ranked = simp (lt-ltb (place s u clock) (s .head .«unit_room») (in-its-record s u clock w .room))
 
   outcome-is : page.outcome (s .head .flow) (s .head .level) (page.used-at (entered s u clock) (place s u clock)) (cond (ltb (place s u clock) (s .head .«unit_room»)) (rank u) (rank units.Overflow)) cost clock
       ≡ page.outcome (s .head .flow) (s .head .level) (use-in (entered s u clock) (place s u clock)) (rank u) cost clock
@@ -146,8 +146,8 @@ handed-back s u cost w =
 
 pub named : Named
 named = record {
-  in-use = λ s u clock w. fine s u clock w .in-use;
-  named = λ s u clock w. fine s u clock w .named;
+  in-use = λ s u clock w. in-its-record s u clock w .in-use;
+  named = λ s u clock w. in-its-record s u clock w .named;
   verdict = verdict;
   judged = judged;
   handed-back = handed-back;

@@ -1,10 +1,10 @@
 -- Which record `entry` gives. Assumes nothing.
-use mathlib.Core.Path.{_≡_, refl}
+use mathlib.Core.Path.{_≡_, refl, sym, _∙_}
 use Prim.Native.Nat.{ℕ, _+_, _<_}
 use native.Mathlib.Omega.{arith}
 use native.Mathlib.Decide.{decLt}
 use mathlib.Core.Logic.{_⊎_, inl, inr}
-use mathlib.Core.Bool.{Bool, true, false}
+use mathlib.Core.Bool.{Bool, true, false, true≢false}
 use lib.Dec.{ltb}
 use borrow.Author.Tests.{lt-ltb, le-ltb}
 use Rattle.flow.specs.Flow as flow
@@ -12,7 +12,7 @@ use Rattle.sender.specs.declared.Unit.{Unit}
 use Rattle.sender.specs.declared.Name.{Name}
 use Rattle.sender.specs.Sender.{name-of, is-overflow}
 use Rattle.store.specs.Store.{Rows, find, is-at, name-at, added, None}
-use Rattle.store.proofs.Steps.{first-holds, first-some, first-all}
+use Rattle.store.proofs.Steps.{first-holds, first-least, first-some, first-all}
 use Rattle.store.proofs.Places.{added-other, record-same}
 use Rattle.store.proofs.Names.{at-name, name-is-at, added-name}
 use Rattle.store_entry.specs.Entering.{entered, place, entry}
@@ -26,6 +26,10 @@ find-below m n name h = first-some (is-at (m .tags) (m .units) name) n (h .at) (
 find-named : (m : Rows) (n : ℕ) (name : Name) → find (m .tags) (m .units) name n < n → name-at (m .tags) (m .units) (find (m .tags) (m .units) name n) ≡ name
 unfolding find
 find-named m n name l = at-name (m .tags) (m .units) name (find (m .tags) (m .units) name n) (first-holds (is-at (m .tags) (m .units) name) n l)
+
+find-first : (m : Rows) (n : ℕ) (name : Name) (j : ℕ) → j < find (m .tags) (m .units) name n → name-at (m .tags) (m .units) j ≡ name → ⊥
+unfolding find
+find-first m n name j l e = true≢false (sym (name-is-at (m .tags) (m .units) name j e) ∙ first-least (is-at (m .tags) (m .units) name) n j l)
 
 none-named : (m : Rows) (n : ℕ) (name : Name) → (Has m n name → ⊥) → None (is-at (m .tags) (m .units) name) 0 n
 none-named m n name lacks k a b = go (is-at (m .tags) (m .units) name k) refl
@@ -54,7 +58,7 @@ module _ (m : Rows) (tracked room : ℕ) (u : Unit) (clock : ℕ) (w : Fits m tr
   found o h =
       let l = find-below m tracked (name-of u) h in
       let e : entry m tracked room u clock ≡ entered (place (find (m .tags) (m .units) (name-of u) tracked) tracked) m = unfold entry in simp (o, lt-ltb _ _ l) in
-      rw e (record { in-use = l; named = find-named m tracked (name-of u) l; kept = refl })
+      rw e (record { in-use = l; named = find-named m tracked (name-of u) l; first = find-first m tracked (name-of u); kept = refl })
 
   added-is : is-overflow u ≡ false → (Has m tracked (name-of u) → ⊥) → tracked < room → Added m tracked u (entry m tracked room u clock)
   added-is o lacks l =

@@ -22,10 +22,11 @@ pub record Fits (m : Rows) (tracked room : ℕ) : Type 0 where
   pub units : length (m .units) ≡ room
   pub used : tracked ≤ room
 
--- found: a record in use that has the unit's name; nothing is written
+-- found: the first record in use that has the unit's name; nothing is written
 pub record Found (m : Rows) (tracked : ℕ) (u : Unit) (e : Entered) : Type 0 where
   pub in-use : e .place .at < tracked
   pub named : name-at (m .tags) (m .units) (e .place .at) ≡ name-of u
+  pub first : (j : ℕ) → j < e .place .at → name-at (m .tags) (m .units) j ≡ name-of u → ⊥
   pub kept : e ≡ entered (place (e .place .at) tracked) m
 
 -- added: a new record behind those in use, that has the unit's name; every other is as it was

@@ -120,7 +120,9 @@ pub extern "C" fn tankpost_cut(
 ) -> Answered
     ensures { λ r. ⌜ ((g : Hist) → Same-but-nan-bits
         (after (r .answer) (state-with g (r .head) (now (tags .exit)) (now (units .exit)) (now (uses .exit)) (now (counted .exit))))
-        (told-as cut-number (page.cut (state-with g head (now (tags .entry)) (now (units .entry)) (now (uses .entry)) (now (counted .entry))) (unit-of unit) (cause-of cause) (now (cost .entry))))) ⌝ }
+        (told-as cut-number
+        (page.cut (state-with g head (now (tags .entry)) (now (units .entry)) (now (uses .entry)) (now (counted .entry)))
+        (unit-of unit) (cause-of cause) (now (cost .entry))))) ⌝ }
 {
     let c = cut::cut(
         head,

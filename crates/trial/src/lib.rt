@@ -132,7 +132,8 @@ fn start(
     l: StartLine,
     out: &mut [u8],
 ) -> Trial
-    ensures { λ r. ⌜ trial.state r (memory (rows (now (tags .entry)) (now (units .entry)) (now (uses .entry))) (hist (now (counts .exit)) (now (sums .exit))) (now (counted .entry))) (now (out .exit))
+    ensures { λ r. ⌜ trial.state r
+        (memory (rows (now (tags .entry)) (now (units .entry)) (now (uses .entry))) (hist (now (counts .exit)) (now (sums .exit))) (now (counted .entry))) (now (out .exit))
         ≡ trial.start
         (trial.state t (memory (rows (now (tags .entry)) (now (units .entry)) (now (uses .entry))) (hist (now (counts .entry)) (now (sums .entry))) (now (counted .entry))) (now (out .entry))) l ⌝ }
 {
