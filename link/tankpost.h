@@ -14,9 +14,25 @@ extern "C" {
 #define TANKPOST_CAUSES 3
 #define TANKPOST_BUCKETS 768
 
-/* Answers of a judgement: 0 admitted, these two cut, 1 to 8 refused by that number. */
-#define TANKPOST_OVER_SHARE 16
-#define TANKPOST_RELAY_RATE 17
+/* The verdict of a judgement; none where it was refused. */
+#define TANKPOST_VERDICT_NONE 0
+#define TANKPOST_VERDICT_ADMITTED 1
+#define TANKPOST_VERDICT_OVER_SHARE 2
+#define TANKPOST_VERDICT_RELAY_RATE 3
+
+/* The rule that decided it: none where it was refused; admitted, or the first that lacked, within the level or over it. */
+#define TANKPOST_RULE_NONE 0
+#define TANKPOST_RULE_ADMITTED 1
+#define TANKPOST_RULE_CREDIT_WITHIN 2
+#define TANKPOST_RULE_CREDIT_OVER 3
+#define TANKPOST_RULE_TOKENS_WITHIN 4
+#define TANKPOST_RULE_TOKENS_OVER 5
+#define TANKPOST_RULE_RESERVE 6
+
+/* The dimension that lacked, by which tankpost_level and tankpost_rate are asked too; none where nothing lacked. */
+#define TANKPOST_DIM_RECEPTIONS 0
+#define TANKPOST_DIM_BYTES 1
+#define TANKPOST_DIM_NONE UINT64_MAX
 
 struct tankpost_bucket {
     double tokens, burst, rate_per_ms;
@@ -59,8 +75,22 @@ struct tankpost_unit {
     uint64_t kind, a, b, c, d;
 };
 
+/* What a start or a cut answers: 0, or the number of the refusal. */
 struct tankpost_answered {
     uint64_t answer;
+    struct tankpost_head head;
+};
+
+/* What a judgement answers. refusal: 0, or the number of the question answered no. want_or_mark: the want of an admitted
+   batch, 0 on a relay that is not bounded; of the reserve, the mark required. part: of the reserve, the part of the burst
+   that would have been left. A double that the rule does not have is 0. */
+struct tankpost_decision {
+    uint64_t refusal, verdict, rule, dim;
+    double want_or_mark, part;
+};
+
+struct tankpost_judged {
+    struct tankpost_decision decision;
     struct tankpost_head head;
 };
 
@@ -90,7 +120,7 @@ struct tankpost_answered tankpost_start(
     const tankpost_counted_row *counted, size_t counted_len,
     const uint64_t rate[TANKPOST_DIMS], const uint64_t ceiling[TANKPOST_DIMS]);
 
-struct tankpost_answered tankpost_judge(
+struct tankpost_judged tankpost_judge(
     struct tankpost_head head,
     uint16_t *tags, size_t tags_len,
     tankpost_unit_row *units, size_t units_len,

@@ -6,8 +6,22 @@
 pub const DIMS: usize = 2;
 pub const CAUSES: usize = 3;
 pub const BUCKETS: usize = 768;
-pub const OVER_SHARE: u64 = 16;
-pub const RELAY_RATE: u64 = 17;
+
+// The codes of a `Decision`.
+pub const VERDICT_NONE: u64 = 0;
+pub const VERDICT_ADMITTED: u64 = 1;
+pub const VERDICT_OVER_SHARE: u64 = 2;
+pub const VERDICT_RELAY_RATE: u64 = 3;
+pub const RULE_NONE: u64 = 0;
+pub const RULE_ADMITTED: u64 = 1;
+pub const RULE_CREDIT_WITHIN: u64 = 2;
+pub const RULE_CREDIT_OVER: u64 = 3;
+pub const RULE_TOKENS_WITHIN: u64 = 4;
+pub const RULE_TOKENS_OVER: u64 = 5;
+pub const RULE_RESERVE: u64 = 6;
+pub const DIM_RECEPTIONS: u64 = 0;
+pub const DIM_BYTES: u64 = 1;
+pub const DIM_NONE: u64 = u64::MAX;
 
 #[repr(C)]
 #[derive(Clone, Copy, Default)]
@@ -78,6 +92,81 @@ pub struct Words {
     pub d: u64,
 }
 
+/// What a judgement answers, as numbers; `told` has them by name. A double that the rule does not have is 0.
+#[repr(C)]
+#[derive(Clone, Copy, Debug)]
+pub struct Decision {
+    pub refusal: u64,
+    pub verdict: u64,
+    pub rule: u64,
+    pub dim: u64,
+    pub want_or_mark: f64,
+    pub part: f64,
+}
+
+#[derive(Clone, Copy, Debug, PartialEq, Eq)]
+pub enum Verdict {
+    Admitted,
+    OverShare,
+    RelayRate,
+}
+
+#[derive(Clone, Copy, Debug, PartialEq, Eq)]
+pub enum Dim {
+    Receptions,
+    Bytes,
+}
+
+/// Where the want lies: within the level or over it.
+#[derive(Clone, Copy, Debug, PartialEq, Eq)]
+pub enum Side {
+    Within,
+    Over,
+}
+
+/// The rule that decided: the first that lacked, and in which dimension. README.md says what helps.
+#[derive(Clone, Copy, Debug, PartialEq)]
+pub enum Rule {
+    /// none lacked; the want, 0 on a relay that is not bounded
+    Admitted(f64),
+    Credit(Side, Dim),
+    Tokens(Side, Dim),
+    /// the mark required, and the part of the burst that would have been left
+    Reserve { dim: Dim, mark: f64, part: f64 },
+}
+
+impl Decision {
+    /// The verdict and its rule, or the number of the refusal.
+    pub fn told(&self) -> Result<(Verdict, Rule), u64> {
+        let dim = if self.dim == DIM_RECEPTIONS { Dim::Receptions } else { Dim::Bytes };
+        let rule = match self.rule {
+            RULE_NONE => return Err(self.refusal),
+            RULE_ADMITTED => Rule::Admitted(self.want_or_mark),
+            RULE_CREDIT_WITHIN => Rule::Credit(Side::Within, dim),
+            RULE_CREDIT_OVER => Rule::Credit(Side::Over, dim),
+            RULE_TOKENS_WITHIN => Rule::Tokens(Side::Within, dim),
+            RULE_TOKENS_OVER => Rule::Tokens(Side::Over, dim),
+            RULE_RESERVE => Rule::Reserve { dim, mark: self.want_or_mark, part: self.part },
+            other => unreachable!("the archive has no rule {other}"),
+        };
+        let verdict = match self.verdict {
+            VERDICT_ADMITTED => Verdict::Admitted,
+            VERDICT_OVER_SHARE => Verdict::OverShare,
+            VERDICT_RELAY_RATE => Verdict::RelayRate,
+            other => unreachable!("the archive has no verdict {other}"),
+        };
+        Ok((verdict, rule))
+    }
+}
+
+#[repr(C)]
+#[derive(Clone, Copy)]
+pub struct Judged {
+    pub decision: Decision,
+    pub head: Head,
+}
+
+/// What a start or a cut answers: 0, or the number of the refusal.
 #[repr(C)]
 #[derive(Clone, Copy)]
 pub struct Answered {
@@ -128,7 +217,7 @@ unsafe extern "C" {
         unit: Words,
         cost: *const [u64; DIMS],
         stamp: u64,
-    ) -> Answered;
+    ) -> Judged;
     fn tankpost_cut(
         head: Head,
         tags: *mut u16, tags_len: usize,
@@ -211,8 +300,14 @@ impl Shedder {
         self.take(a)
     }
 
-    pub fn judge(&mut self, unit: Words, cost: [u64; DIMS], stamp: u64) -> u64 {
-        let a = unsafe {
+    /// The verdict and its rule, or the number of the refusal.
+    pub fn judge(&mut self, unit: Words, cost: [u64; DIMS], stamp: u64) -> Result<(Verdict, Rule), u64> {
+        self.decision(unit, cost, stamp).told()
+    }
+
+    /// The same as numbers.
+    pub fn decision(&mut self, unit: Words, cost: [u64; DIMS], stamp: u64) -> Decision {
+        let j = unsafe {
             tankpost_judge(
                 self.head,
                 self.tags.as_mut_ptr(), self.tags.len(),
@@ -226,7 +321,8 @@ impl Shedder {
                 stamp,
             )
         };
-        self.take(a)
+        self.head = j.head;
+        j.decision
     }
 
     pub fn cut(&mut self, unit: Words, cause: u64, cost: [u64; DIMS]) -> u64 {

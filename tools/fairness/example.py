@@ -19,7 +19,7 @@ ROOT = os.path.dirname(os.path.dirname(HERE))
 RATE = 10
 DAIRY = 'no-address'
 SECONDS = 60
-WORDS = {0: 'ok', 16: 'over-share', 17: 'relay-rate'}
+WORDS = {1: 'ok', 2: 'over-share', 3: 'relay-rate'}
 
 
 def made(readings):

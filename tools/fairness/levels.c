@@ -1,7 +1,7 @@
 /* Runs a list of the trial's language through the linked calls and says, for each judgement of one sender, what the trial does
    not show: the want against the level is decided by the level in force, the fill by that and the rate.
    usage: levels LABEL < LIST; LIST has R lines, and J lines of v4 groups and of no-address.
-   Prints for each J line of LABEL: stamp, readings, answer, level in force (receptions). */
+   Prints for each J line of LABEL: stamp, readings, verdict, level in force (receptions). */
 #include <inttypes.h>
 #include <stdio.h>
 #include <string.h>
@@ -27,10 +27,10 @@ static int start(const uint64_t rate[2], const uint64_t ceiling[2]) {
 }
 
 static int judge(struct tankpost_unit unit, const uint64_t cost[2], uint64_t stamp) {
-    struct tankpost_answered a = tankpost_judge(head, tags, UNITS + COUNTED, units, UNITS, uses, UNITS, &counts, &sums, counted,
-                                                COUNTED, unit, cost, stamp);
-    head = a.head;
-    return (int)a.answer;
+    struct tankpost_judged j = tankpost_judge(head, tags, UNITS + COUNTED, units, UNITS, uses, UNITS, &counts, &sums, counted,
+                                              COUNTED, unit, cost, stamp);
+    head = j.head;
+    return (int)j.decision.verdict;
 }
 
 static struct tankpost_unit unit_of(const char *label) {

@@ -49,7 +49,7 @@ impl Two {
     }
 
     fn here_call(&mut self, r: &Round, round: u64, i: usize) -> bool {
-        self.here.judge(r.words[i], r.costs[i], r.stamp(round, i)) == 0
+        self.here.decision(r.words[i], r.costs[i], r.stamp(round, i)).verdict == tankpost::VERDICT_ADMITTED
     }
 }
 

@@ -12,7 +12,7 @@ use key::PublicKey;
 use report::text_of;
 use shed::{Cause, Cost, Rates, Unit};
 use std::hint::black_box;
-use tankpost::Words;
+use tankpost::{Verdict, Words};
 
 const SOURCES: usize = 4_096;
 
@@ -99,9 +99,8 @@ fn rust_run(s: &shed::Shedder, units: &[Unit], calls: &[Call]) -> u64 {
 fn here_run(s: &mut tankpost::Shedder, words: &[Words], calls: &[Call]) -> u64 {
     let mut admitted = 0;
     for c in calls {
-        let answer = s.judge(words[c.sender], c.cost, c.stamp);
-        assert!(answer == 0 || answer >= tankpost::OVER_SHARE, "refused {answer}");
-        admitted += u64::from(answer == 0);
+        let (verdict, _) = s.judge(words[c.sender], c.cost, c.stamp).expect("not refused");
+        admitted += u64::from(verdict == Verdict::Admitted);
     }
     admitted
 }

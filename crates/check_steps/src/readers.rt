@@ -6,9 +6,9 @@ use codes::bounded_number;
 use codes::level_number;
 use codes::rate_number;
 use codes::reading_number;
+use flow::Dim;
 use head::Answer;
 use head::Cause;
-use head::Dim;
 use head::Shedder;
 
 pub fn judge_number(a: Answer) -> u64 {

@@ -1,16 +1,13 @@
--- The numbers by which calls answer, and take a cause or a dimension. Definitions only.
--- A refused call answers document 01's number, 1 to 8. A call that was taken answers 0, but for the two verdicts that cut a batch: 16 and 17.
+-- The numbers by which readings answer, and by which a call takes a cause or a dimension. A start and a cut answer the refusal's number or 0 (head/specs/Answers), a judgement
+-- as specs/Decisions has it. Definitions only.
 use mathlib.Core.Bool.{cond}
 use Prim.Native.Nat.{ℕ}
 use lib.Dec.{eqb}
 use lib.Ieee.{binary64, ofBits}
-use Rattle.flow.specs.Flow.{«UNBOUNDED»}
-use Rattle.head.specs.declared.Answer.{Answer}
-use Rattle.head.specs.declared.Answer.the-variants as answer
+use Rattle.flow.specs.declared.Dim.{Dim}
+use Rattle.flow.specs.Flow.{«UNBOUNDED», dim-at}
 use Rattle.head.specs.declared.Cause.{Cause}
 use Rattle.head.specs.declared.Cause.the-variants as cause
-use Rattle.head.specs.declared.Dim.{Dim}
-use Rattle.head.specs.declared.Dim.the-variants as dim
 use Rattle.head.specs.declared.Reading.{Reading}
 use Rattle.head.specs.declared.Reading.the-variants as reading
 use Rattle.head.specs.declared.LevelRead.{LevelRead}
@@ -24,20 +21,13 @@ use Rattle.head.specs.declared.Written.the-variants as written
 use Rattle.codes.specs.declared.Count.{Count}
 use Rattle.codes.specs.declared.Level.{Level}
 
--- ---- the answer of a judgement (those of a start and a cut are the refusal's number or 0: head/specs/Answers)
-unfoldable pub judge-code : Answer → ℕ
-judge-code answer.Admitted = 0
-judge-code answer.OverShare = 16
-judge-code answer.RelayRate = 17
-judge-code (answer.Refused n) = n
-
 -- ---- a cause: 0 receiver-ceiling, 1 over-share, 2 and any other number relay-rate
 unfoldable pub cause-of : ℕ → Cause
 cause-of n = cond (eqb n 0) cause.ReceiverCeiling (cond (eqb n 1) cause.OverShare cause.RelayRate)
 
 -- ---- a dimension: 0 receptions, 1 and any other number bytes
 unfoldable pub dim-of : ℕ → Dim
-dim-of n = cond (eqb n 0) dim.Receptions dim.Bytes
+dim-of n = dim-at n
 
 -- ---- what is read: the refusal's number and 0, or 0 and the value
 abbrev pub count : ℕ → ℕ → Count

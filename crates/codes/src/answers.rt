@@ -1,7 +1,6 @@
-// Document 01's number of each kind of answer, 0 where the call was not refused; and the answer of a judgement as one number.
+// Document 01's number of each kind of answer, 0 where the call was not refused.
 ghost use mathlib.Core.Path.{_≡_};
 ghost use Rattle.head.specs.Answers as answers;
-ghost use Rattle.codes.specs.Numbers as numbers;
 use head::Answer;
 use head::Begin;
 use head::BoundedRead;
@@ -84,17 +83,5 @@ pub fn report_number(answer: Written) -> u64
     match answer {
         Written::Bytes(_) => 0,
         Written::Refused(n) => n,
-    }
-}
-
-// The two verdicts that cut a batch have numbers of their own.
-pub fn judge_code(answer: Answer) -> u64
-    ensures { λ r. ⌜ r ≡ numbers.judge-code answer ⌝ }
-{
-    match answer {
-        Answer::Admitted => 0,
-        Answer::OverShare => 16,
-        Answer::RelayRate => 17,
-        Answer::Refused(n) => n,
     }
 }

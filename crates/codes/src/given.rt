@@ -1,8 +1,8 @@
 // A cause and a dimension by number, in document 01's order.
 ghost use mathlib.Core.Path.{_≡_};
 ghost use Rattle.codes.specs.Numbers as numbers;
+use flow::Dim;
 use head::Cause;
-use head::Dim;
 
 pub fn cause_of(n: u64) -> Cause
     ensures { λ r. ⌜ r ≡ numbers.cause-of n ⌝ }

@@ -24,7 +24,7 @@ use Rattle.head.specs.declared.Answer.{Answer}
 use Rattle.head.specs.declared.Answer.the-variants as answer
 use Rattle.head.specs.declared.Cause.{Cause}
 use Rattle.head.specs.declared.Cause.the-variants as cause
-use Rattle.head.specs.declared.Dim.{Dim}
+use Rattle.flow.specs.declared.Dim.{Dim}
 use Rattle.head.specs.declared.Begin.the-variants as begin
 use Rattle.report.specs.Report.{report-asked}
 use Rattle.fair.specs.Given as shed

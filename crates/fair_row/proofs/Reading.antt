@@ -9,7 +9,7 @@ use lib.Seq.{take-length, length-take-le}
 use Rattle.text.specs.Page.{page, write}
 use Rattle.head.specs.declared.Shedder.{Shedder}
 use Rattle.head.specs.declared.Cause.{Cause}
-use Rattle.head.specs.declared.Dim.{Dim}
+use Rattle.flow.specs.declared.Dim.{Dim}
 use Rattle.head.specs.declared.Reading.{Reading}
 use Rattle.head.specs.declared.LevelRead.{LevelRead}
 use Rattle.head.specs.declared.RateRead.{RateRead}

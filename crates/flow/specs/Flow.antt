@@ -11,11 +11,21 @@ use Rattle.ieee.specs.Doubles.{_⊕_, _⊖_, _⊗_, _⊘_, nothing, one, two, f
 use Rattle.ieee.specs.Extremes.{least, most}
 use Rattle.fade.specs.Fade.{fade}
 pub use Rattle.fade.specs.Fade.{«WINDOW_MS»}
+use Rattle.flow.specs.declared.Dim.{Dim}
+use Rattle.flow.specs.declared.Dim.the-variants as dim
 use Rattle.flow.specs.declared.Bucket.{Bucket}
 use Rattle.flow.specs.declared.Use.{Use}
 
 abbrev pub dims : ℕ
 dims = 2
+
+-- a dimension's place, and the dimension at a place
+unfoldable pub dim-of : Dim → ℕ
+dim-of dim.Receptions = 0
+dim-of dim.Bytes = 1
+
+unfoldable pub dim-at : ℕ → Dim
+dim-at d = cond (eqb d 0) dim.Receptions dim.Bytes
 
 -- the window in seconds: a rate is a faded sum over it
 abbrev pub «WINDOW_SECS» : Float

@@ -8,6 +8,12 @@ pub use fade::WINDOW_MS;
 // Receptions and bytes. Every loop, array and law goes over this number.
 pub const DIMS: usize = 2;
 
+// A dimension of a rate, a cost or a level.
+pub enum Dim {
+    Receptions,
+    Bytes,
+}
+
 // The window in seconds: a rate is a faded sum over it.
 pub const WINDOW_SECS: f64 = 2.0;
 
@@ -37,6 +43,13 @@ pub struct Use {
     pub credit: [f64; DIMS],
     pub at_ms: u64,
     pub fresh: u64,
+}
+
+// The dimension at a place.
+pub fn dim_at(d: usize) -> Dim
+    ensures { λ r. ⌜ r ≡ flow.dim-at d ⌝ }
+{
+    if d == 0 { Dim::Receptions } else { Dim::Bytes }
 }
 
 // ---- numbers

@@ -3,12 +3,12 @@ use mathlib.Core.Bool.{cond}
 use Prim.Native.Nat.{ℕ}
 use lib.ListN.{getD}
 use lib.Ieee as Ieee
+use Rattle.flow.specs.declared.Dim.{Dim}
+use Rattle.flow.specs.Flow.{dim-of}
 use Rattle.head.specs.declared.Shedder.{Shedder}
 use Rattle.head.specs.declared.Cause.{Cause}
 use Rattle.head.specs.declared.Cause.the-variants as cause
 use Rattle.head.specs.declared.Reading.{Reading}
-use Rattle.head.specs.declared.Dim.{Dim}
-use Rattle.head.specs.declared.Dim.the-variants as dim
 use Rattle.head.specs.declared.LevelRead.{LevelRead}
 use Rattle.head.specs.declared.LevelRead.the-variants as level-reads
 use Rattle.head.specs.declared.RateRead.{RateRead}
@@ -29,11 +29,6 @@ visited h = cond (head-whole h) (reading.Whole (h .visits)) (reading.Refused 3)
 
 unfoldable pub cut-batches : Shedder → Cause → Reading
 cut-batches h c = cond (head-whole h) (reading.Whole (getD (h .batches) (index-of c) 0)) (reading.Refused 3)
-
--- a dimension's place
-unfoldable pub dim-of : Dim → ℕ
-dim-of dim.Receptions = 0
-dim-of dim.Bytes = 1
 
 unfoldable pub level-read : Shedder → Dim → LevelRead
 level-read h d = cond (head-whole h) (level-reads.Level (getD (h .level) (dim-of d) Ieee.nan)) (level-reads.Refused 3)

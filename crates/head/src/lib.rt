@@ -20,6 +20,7 @@ pub use store::CAUSES;
 use store::SourceRow;
 use store::UnitRow;
 use store::UseRow;
+use verdict::Rule;
 use wants::Counts;
 use wants::Sums;
 
@@ -95,18 +96,18 @@ pub enum Cause {
     RelayRate,
 }
 
-// A dimension of a rate, a cost or a level.
-pub enum Dim {
-    Receptions,
-    Bytes,
-}
-
 // A refusal carries the number of the question that was answered no.
 pub enum Answer {
     Admitted,
     OverShare,
     RelayRate,
     Refused(u64),
+}
+
+// The rule that decided a judgement; one that was refused has none.
+pub enum Ruling {
+    Refused,
+    Ruled(Rule),
 }
 
 pub enum Done {

@@ -1,14 +1,14 @@
 // The readings of a head, each through question 3: the tables visited, the batches cut for a cause, a level, a rate, whether the relay is bounded.
-ghost use Rattle.flow.specs.Flow.{dims};
+ghost use Rattle.flow.specs.Flow.{dims, dim-of};
 ghost use mathlib.Core.Path.{_≡_};
 ghost use Prim.Native.Nat.{_<_};
 ghost use Rattle.head.specs.Questions as asked;
 ghost use Rattle.head.specs.Answers as answers;
 ghost use Rattle.head.specs.Readings as readings;
 ghost use Rattle.head.specs.Bits.{Same-but-nan-bits};
+use flow::Dim;
 use head::BoundedRead;
 use head::Cause;
-use head::Dim;
 use head::LevelRead;
 use head::RateRead;
 use head::Reading;
@@ -19,7 +19,7 @@ use head::is_unbounded;
 
 // A dimension's place.
 fn dim_of(dim: Dim) -> usize
-    ensures { λ r. ⌜ r ≡ readings.dim-of dim ⌝ }
+    ensures { λ r. ⌜ r ≡ dim-of dim ⌝ }
     ensures { λ r. ⌜ r < dims ⌝ }
 {
     match dim {

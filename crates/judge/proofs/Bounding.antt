@@ -11,10 +11,12 @@ use Rattle.store.specs.Store.{Rows, rows}
 use Rattle.wants.specs.Wants.{Hist}
 use Rattle.head.specs.declared.Shedder.{Shedder}
 use Rattle.head.specs.declared.Answer.{Answer}
+use Rattle.head.specs.declared.Ruling.the-variants.{Ruled}
+use Rattle.verdict.specs.declared.Rule.{Rule}
 use Rattle.scan.specs.Scanning.{scanning, scanned}
 use Rattle.cut_counts.specs.Counting.{tally, count-verdict}
 use Rattle.judge.specs.declared.Passed.{Passed}
-use Rattle.judge.specs.Judging.{passed, judged, answer-of, memory, judge-ends, bounded-scanned, bounded-counted, bounded-passed, bounded}
+use Rattle.judge.specs.Judging.{passed, judged, answer-of, memory, judge-ends, bounded-scanned, bounded-counted, bounded-passed, bounded, ruled, bounded-ruling}
 
 pub bounded-is : (h : Shedder) (m : Rows) (g : Hist) (k : List (List ℕ)) (u : Unit) (cost : List ℕ) (stamp : ℕ)
     (clock : ℕ) (paid : List Float) (p : Passed) (i1 : List ℕ) (u1 : List (List ℕ)) (s1 : List (List Float)) (n : Name) (t : Shedder) (i2 : List ℕ) (k1 : List (List ℕ)) (s : Shedder) (m2 : Rows) (g1 : Hist) (a : Answer)
@@ -34,3 +36,13 @@ bounded-is h m g k u cost stamp clock paid p i1 u1 s1 n t i2 k1 s m2 g1 a eC eN 
     ∙ ap (bounded-passed (memory m g k) u cost clock) eP
     ∙ ap (λ (c : List Float). bounded-passed (memory m g k) u cost clock (judged h m u c clock)) eN
     ∙ ap (λ (clock : ℕ). bounded-passed (memory m g k) u cost clock (judged h m u (numbers cost) clock)) eC
+
+-- its ruling
+pub ruling-is : (h : Shedder) (m : Rows) (u : Unit) (cost : List ℕ) (stamp : ℕ) (clock : ℕ) (paid : List Float) (q : Rule)
+    → clock ≡ max stamp (h .flow .«at_ms»)
+    → paid ≡ numbers cost
+    → q ≡ ruled h m u paid clock
+    → Ruled q ≡ bounded-ruling h m u cost stamp
+unfolding bounded-ruling
+ruling-is h m u cost stamp clock paid q eC eN eQ =
+    ap Ruled (eQ ∙ ap (λ (c : List Float). ruled h m u c clock) eN ∙ ap (ruled h m u (numbers cost)) eC)

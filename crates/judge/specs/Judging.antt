@@ -5,15 +5,18 @@ use mathlib.Core.List.{List}
 use lib.Dec.{eqb, ltb}
 use lib.ListN.{length}
 use lib.Ieee.{Float}
-use Rattle.ieee.specs.Doubles.{_⊕_}
+use Rattle.ieee.specs.Doubles.{_⊕_, nothing}
 use Rattle.flow.specs.Flow as flow
 use Rattle.verdict.specs.Verdict as verdicts
+use Rattle.verdict.specs.Rules as rules
 use Rattle.flow.specs.Flow.{at, upto, zeros, dims}
 use Rattle.verdict.specs.Verdict.{is-admitted}
 use Rattle.flow.specs.declared.Use.{Use}
 use Rattle.verdict.specs.declared.Outcome.{Outcome}
 use Rattle.verdict.specs.declared.Verdict.{Verdict}
 use Rattle.verdict.specs.declared.Verdict.the-variants as verdict
+use Rattle.verdict.specs.declared.Rule.{Rule}
+use Rattle.verdict.specs.declared.Rule.the-variants as rule-kind
 use Rattle.sender.specs.declared.Unit as unit
 use Rattle.sender.specs.declared.Unit.the-variants as units
 use Rattle.sender.specs.Sender as sender
@@ -23,6 +26,8 @@ use Rattle.head.specs.declared.Flow.{Flow}
 use Rattle.head.specs.declared.Shedder.{Shedder}
 use Rattle.head.specs.declared.Answer.{Answer}
 use Rattle.head.specs.declared.Answer.the-variants as answer
+use Rattle.head.specs.declared.Ruling.{Ruling}
+use Rattle.head.specs.declared.Ruling.the-variants.{Refused, Ruled}
 use Rattle.judge.specs.declared.Passed.{Passed}
 use Rattle.judge.specs.declared.Judgement.{Judgement}
 use Rattle.head.specs.Questions.{is-unbounded, judge-asked}
@@ -41,6 +46,10 @@ rank-at hash i room = cond (ltb i room) (sender.rank-of-hash hash) (sender.rank 
 -- the verdict on a use, the buckets refilled since the clock before, with the level as it stands before this call's scan
 unfoldable pub outcome : Flow → List Float → Use → Float → List Float → ℕ → Outcome
 outcome f level u rank cost clock = verdicts.judged (f .buckets) u clock (clock - f .«at_ms») cost (flow.fills level (flow.numbers (f .rate))) level rank
+
+-- the rule that decides it
+unfoldable pub rule : Flow → List Float → Use → Float → List Float → ℕ → Rule
+rule f level u rank cost clock = rules.ruled (f .buckets) u clock (clock - f .«at_ms») cost (flow.fills level (flow.numbers (f .rate))) level rank
 
 -- only an admission adds to it
 unfoldable pub admitted-then : Verdict → List Float → List Float → List Float
@@ -72,6 +81,11 @@ abbrev pub outcome-at : Shedder → unit.Unit → List Float → ℕ → Entered
 outcome-at h u cost clock e =
     outcome (h .flow) (h .level) (used-at (e .rows .units) (e .rows .uses) (h .overflow) (e .place .at)) (rank-at (sender.hash-of u) (e .place .at) (h .«unit_room»)) cost clock
 
+-- and the rule there
+abbrev pub rule-at : Shedder → unit.Unit → List Float → ℕ → Entered → Rule
+rule-at h u cost clock e =
+    rule (h .flow) (h .level) (used-at (e .rows .units) (e .rows .uses) (h .overflow) (e .place .at)) (rank-at (sender.hash-of u) (e .place .at) (h .«unit_room»)) cost clock
+
 abbrev pub judged-at : Shedder → unit.Unit → List Float → ℕ → Entered → Through
 judged-at h u cost clock e =
     passing h clock cost e (outcome-at h u cost clock e) (put-back (e .rows .units) (e .rows .uses) (h .overflow) (e .place .at) (outcome-at h u cost clock e .used))
@@ -79,6 +93,9 @@ judged-at h u cost clock e =
 -- a judgement on the record that is found, added or overflow's
 unfoldable pub judged : Shedder → Rows → unit.Unit → List Float → ℕ → Through
 judged h m u cost clock = judged-at h u cost clock (entry m (h .tracked) (h .«unit_room») u clock)
+
+unfoldable pub ruled : Shedder → Rows → unit.Unit → List Float → ℕ → Rule
+ruled h m u cost clock = rule-at h u cost clock (entry m (h .tracked) (h .«unit_room») u clock)
 
 -- the lent memory: the unit records, the histogram, the counted records
 pub record Memory : Type 0 where
@@ -129,3 +146,12 @@ judge h m u cost stamp =
     cond (eqb (judge-asked h (length (m .rows .tags)) (length (m .rows .units)) (length (m .rows .uses)) (length (m .counted)) cost stamp) 0)
     (cond (is-unbounded (h .flow .rate)) (judge-ends answer.Admitted h m) (bounded h m u cost stamp))
     (judge-ends (answer.Refused (judge-asked h (length (m .rows .tags)) (length (m .rows .units)) (length (m .rows .uses)) (length (m .counted)) cost stamp)) h m)
+
+-- ---- THE RULE that decides it (document 02, K1): a refused judgement has none; an unbounded relay admits with a want of 0
+unfoldable pub bounded-ruling : Shedder → Rows → unit.Unit → List ℕ → ℕ → Ruling
+bounded-ruling h m u cost stamp = Ruled (ruled h m u (flow.numbers cost) (max stamp (h .flow .«at_ms»)))
+
+unfoldable pub ruling : Shedder → Memory → unit.Unit → List ℕ → ℕ → Ruling
+ruling h m u cost stamp =
+    cond (eqb (judge-asked h (length (m .rows .tags)) (length (m .rows .units)) (length (m .rows .uses)) (length (m .counted)) cost stamp) 0)
+    (cond (is-unbounded (h .flow .rate)) (Ruled (rule-kind.Admitted nothing)) (bounded-ruling h (m .rows) u cost stamp)) Refused

@@ -13,6 +13,7 @@ use flow::DIMS;
 use flow::Use;
 use head::Answer;
 use head::Flow;
+use head::Ruling;
 use head::Shedder;
 use sender::Name;
 use sender::Unit;
@@ -20,13 +21,16 @@ use store::SourceRow;
 use store::UnitRow;
 use store::UseRow;
 use verdict::Outcome;
+use verdict::Rule;
+use verdict::Ruled;
 use verdict::Verdict;
 use wants::Counts;
 use wants::Sums;
 
-// What a judgement answers, and the head after it.
+// What a judgement answers, the rule that decided it, and the head after it.
 pub struct Judgement {
     pub answer: Answer,
+    pub ruling: Ruling,
     pub head: Shedder,
 }
 
@@ -54,16 +58,10 @@ fn rank_at(hash: u64, at: usize, room: usize) -> f64
     }
 }
 
-// The verdict on a use, with the level as it stands before this call's scan.
-fn outcome(
-    f: Flow,
-    level: [f64; DIMS],
-    used: Use,
-    rank: f64,
-    cost: [f64; DIMS],
-    clock: u64,
-) -> Outcome
-    ensures { λ r. ⌜ r ≡ judging.outcome f level used rank cost clock ⌝ }
+// Rule and verdict on a use, with the level as it stands before this call's scan.
+fn ruled(f: Flow, level: [f64; DIMS], used: Use, rank: f64, cost: [f64; DIMS], clock: u64) -> Ruled
+    ensures { λ r. ⌜ r .outcome ≡ judging.outcome f level used rank cost clock ⌝ }
+    ensures { λ r. ⌜ r .rule ≡ judging.rule f level used rank cost clock ⌝ }
 {
     let buckets = f.buckets;
     let rate = f.rate;
@@ -110,9 +108,10 @@ fn flowed(f: Flow, o: Outcome, cost: [f64; DIMS], clock: u64) -> Flow
     }
 }
 
-// A verdict, and the head after it.
+// A verdict, its rule, and the head after it.
 pub struct Passed {
     pub verdict: Verdict,
+    pub rule: Rule,
     pub head: Shedder,
 }
 
@@ -142,6 +141,7 @@ fn judged(
     ensures { λ r. ⌜ r .head .counted ≡ head .counted ⌝ }
     ensures { λ r. ⌜ r .head .«unit_room» ≡ head .«unit_room» ⌝ }
     ensures { λ r. ⌜ r .head .scan ≡ head .scan ⌝ }
+    ensures { λ r. ⌜ r .rule ≡ judging.ruled head (store.rows (now (tags .entry)) (now (units .entry)) (now (uses .entry))) unit cost clock ⌝ }
 {
     let f = head.flow;
     let level = head.level;
@@ -150,7 +150,8 @@ fn judged(
     let p = store_entry::entry(tags, units, uses, head.tracked, room, unit, name, i, clock);
     let at = p.at;
     let used = store_entry::used_at(units, uses, overflow, at);
-    let o = outcome(f, level, used, rank_at(hash, at, room), cost, clock);
+    let r = ruled(f, level, used, rank_at(hash, at, room), cost, clock);
+    let o = r.outcome;
     let next = o.used;
     let shared = store_entry::put_back(units, uses, overflow, at, next);
     let flow = flowed(f, o, cost, clock);
@@ -159,7 +160,12 @@ fn judged(
     h.overflow = shared;
     h.tracked = p.tracked;
     let verdict = o.verdict;
-    Passed { verdict, head: h }
+    let rule = r.rule;
+    Passed {
+        verdict,
+        rule,
+        head: h,
+    }
 }
 
 // A verdict as an answer.
@@ -199,6 +205,7 @@ fn bounded(
         ≡ judging.bounded head
         (judging.memory (store.rows (now (tags .entry)) (now (units .entry)) (now (uses .entry))) (wants.hist (now (counts .entry)) (now (sums .entry))) (now (counted .entry))) unit cost stamp ⌝ }
     ensures { λ r. ⌜ answers.judge-number (r .answer) ≡ 0 ⌝ }
+    ensures { λ r. ⌜ r .ruling ≡ judging.bounded-ruling head (store.rows (now (tags .entry)) (now (units .entry)) (now (uses .entry))) unit cost stamp ⌝ }
 {
     let f = head.flow;
     let clock = flow::later(stamp, f.at_ms);
@@ -216,13 +223,18 @@ fn bounded(
     );
     let h = p.head;
     let verdict = p.verdict;
+    let rule = p.rule;
     let t = cut_counts::count_verdict(h, tags, counted, name, verdict, cost);
     let s = scan::scanned(t, tags, units, uses, counts, sums, clock);
     let answer = answer_of(verdict);
-    Judgement { answer, head: s }
+    Judgement {
+        answer,
+        ruling: Ruling::Ruled(rule),
+        head: s,
+    }
 }
 
-// Whether a unit's batch of this cost, stamped so, is admitted. A cut is counted. A refusal changes nothing.
+// Whether a unit's batch of this cost, stamped so, is admitted, and by which rule. A cut is counted. A refusal changes nothing.
 pub fn judge(
     head: Shedder,
     tags: &mut [u16],
@@ -242,6 +254,9 @@ pub fn judge(
         (judging.memory (store.rows (now (tags .entry)) (now (units .entry)) (now (uses .entry))) (wants.hist (now (counts .entry)) (now (sums .entry))) (now (counted .entry))) unit cost stamp) ⌝ }
     ensures { λ r. ⌜ answers.judge-number (r .answer)
         ≡ asked.judge-asked head (length (now (tags .entry))) (length (now (units .entry))) (length (now (uses .entry))) (length (now (counted .entry))) cost stamp ⌝ }
+    ensures { λ r. ⌜ Same-but-nan-bits (r .ruling)
+        (judging.ruling head
+        (judging.memory (store.rows (now (tags .entry)) (now (units .entry)) (now (uses .entry))) (wants.hist (now (counts .entry)) (now (sums .entry))) (now (counted .entry))) unit cost stamp) ⌝ }
 {
     let no = head::judge_asked(
         head,
@@ -255,6 +270,7 @@ pub fn judge(
     if no != 0 {
         return Judgement {
             answer: Answer::Refused(no),
+            ruling: Ruling::Refused,
             head,
         };
     }
@@ -263,6 +279,7 @@ pub fn judge(
     if head::is_unbounded(rate) {
         return Judgement {
             answer: Answer::Admitted,
+            ruling: Ruling::Ruled(Rule::Admitted(0.0)),
             head,
         };
     }

@@ -10,9 +10,11 @@ use Rattle.sender.specs.declared.Unit.{Unit}
 use Rattle.sender.specs.Sender.{name-of}
 use Rattle.head.specs.declared.Shedder.{Shedder}
 use Rattle.head.specs.declared.Cause.{Cause}
-use Rattle.head.specs.declared.Dim.{Dim}
+use Rattle.flow.specs.declared.Dim.{Dim}
 use Rattle.head.specs.declared.Begin.the-variants as begin
 use Rattle.head.specs.declared.Answer.the-variants as answer
+use Rattle.head.specs.declared.Ruling.{Ruling}
+use Rattle.head.specs.declared.Ruling.the-variants as ruling
 use Rattle.head.specs.declared.Done.the-variants as done
 use Rattle.head.specs.declared.Written.the-variants as written
 use Rattle.head.specs.Questions as asked
@@ -30,7 +32,7 @@ use Rattle.meaning.specs.Page as page
 use Rattle.meaning.specs.Agrees.{of, started, judged, cut, start-with, report-with, front-with, asked-with, Agrees}
 use Rattle.meaning.proofs.Asked.{unbounded-is, rates-is, stamp-is, costs-is, head-is, memory-is, sizes-is}
 use Rattle.meaning.proofs.Scanned.{scanned-is}
-use Rattle.meaning.proofs.Judged.{judged-is, passed, counted-is, told-is, tallied, tally-of, handed-is, kept}
+use Rattle.meaning.proofs.Judged.{judged-is, ruled-is, passed, counted-is, told-is, tallied, tally-of, handed-is, kept}
 
 -- question 4, as the contracts ask it
 abbrev memory-whole : Shedder → Memory → Bool
@@ -48,7 +50,7 @@ start-is h m rate ceiling = rw (rates-is rate, sizes-is (of h m)) (go (asked.rat
 
 -- ---- judge
 bounded-is : (h : Shedder) (m : Memory) (u : Unit) (cost : List ℕ) (stamp : ℕ) → page.bounded (of h m) u cost stamp ≡ judged (judging.bounded h m u cost stamp)
-unfolding page.bounded judging.bounded
+unfolding page.bounded page.clock-by judging.bounded
 bounded-is h m u cost stamp =
     let clock = max stamp (h .flow .«at_ms») in
     let p = judging.judged h (m .rows) u (numbers cost) clock in
@@ -57,7 +59,7 @@ bounded-is h m u cost stamp =
     rw (judged-is (of h m) u (numbers cost) clock, told-is s (name-of u) (p .verdict) cost, scanned-is t clock) refl
 
 judge-is : (h : Shedder) (m : Memory) (u : Unit) (cost : List ℕ) (stamp : ℕ) → page.judge (of h m) u cost stamp ≡ judged (judging.judge h m u cost stamp)
-unfolding page.judge judging.judge asked.judge-asked
+unfolding page.judge page.judge-asks judging.judge asked.judge-asked
 judge-is h m u cost stamp =
     let s = of h m in
     rw (head-is h, memory-is s, costs-is cost, stamp-is stamp, unbounded-is (h .flow .rate), bounded-is h m u cost stamp)
@@ -71,6 +73,20 @@ judge-is h m u cost stamp =
     go true true false d e x = refl
     go true false c d e x = refl
     go false b c d e x = refl
+
+rule-is : (h : Shedder) (m : Memory) (u : Unit) (cost : List ℕ) (stamp : ℕ) → page.judge-rule (of h m) u cost stamp ≡ judging.ruling h m u cost stamp
+unfolding page.judge-rule page.judge-asks page.clock-by judging.ruling judging.bounded-ruling asked.judge-asked
+rule-is h m u cost stamp =
+    let s = of h m in
+    rw (head-is h, memory-is s, costs-is cost, stamp-is stamp, unbounded-is (h .flow .rate), ruled-is s u (numbers cost) (max stamp (h .flow .«at_ms»)))
+    (go (asked.head-whole h) (memory-whole h m) (asked.costs-held cost) (asked.is-stamp stamp) _)
+  where
+    go : (a b c d : Bool) (x : Ruling) → ask ((3, a) ∷ (4, b) ∷ (5, c) ∷ (6, d) ∷ []) (λ n. ruling.Refused) x ≡ cond (eqb (cond a (cond b (cond c (cond d 0 6) 5) 4) 3) 0) x ruling.Refused
+    go true true true true x = refl
+    go true true true false x = refl
+    go true true false d x = refl
+    go true false c d x = refl
+    go false b c d x = refl
 
 -- ---- cut
 hands-is : (rate : List ℕ) (c : Cause) → (not (asked.is-unbounded rate) && eqb (index-of c) 0) ≡ cutting.hands-back rate c
@@ -177,6 +193,7 @@ pub agrees : Agrees
 agrees = record {
   start-is = start-is;
   judge-is = judge-is;
+  rule-is = rule-is;
   cut-is = cut-is;
   report-is = report-is;
   front-is = front-is;

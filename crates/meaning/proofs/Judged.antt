@@ -5,6 +5,7 @@ use mathlib.Core.List.{List}
 use Prim.Native.Nat.{ℕ, _-_}
 use lib.Dec.{leb, ltb}
 use lib.ListN.{length, getD}
+use borrow.Author.Tests.{ltb-true, ltb-false, lt-leb, le-leb}
 use lib.Ieee as Ieee
 use lib.Ieee.{Float}
 use Rattle.flow.specs.Flow as flow
@@ -14,6 +15,8 @@ use Rattle.flow.specs.declared.Bucket.{Bucket}
 use Rattle.flow.specs.declared.Use.{Use}
 use Rattle.verdict.specs.Verdict as verdicts
 use Rattle.verdict.specs.Verdict.{is-admitted}
+use Rattle.verdict.specs.Rules as rules
+use Rattle.verdict.specs.declared.Rule.{Rule}
 use Rattle.verdict.specs.declared.Verdict.{Verdict}
 use Rattle.verdict.specs.declared.Verdict.the-variants.{Admitted, OverShare, RelayRate}
 use Rattle.sender.specs.declared.Unit.{Unit}
@@ -84,7 +87,7 @@ settled-is OverShare bs u cost = refl
 settled-is RelayRate bs u cost = refl
 
 pub outcome-is : (f : Flow) (level : List Float) (u : Use) (rank : Float) (cost : List Float) (now : ℕ) → page.outcome f level u rank cost now ≡ judging.outcome f level u rank cost now
-unfolding page.outcome judging.outcome flow.fills
+unfolding page.outcome page.met page.part-left judging.outcome flow.fills
 outcome-is f level u rank cost now =
     let fill = flow.fills level (flow.numbers (f .rate)) in
     let met = verdicts.met u now fill cost in
@@ -102,7 +105,7 @@ unfolding judging.admitted-then judging.raised
 admitted-is v xs cost = refl
 
 pub judged-is : (s : State) (u : Unit) (cost : List Float) (now : ℕ) → page.judged s u cost now ≡ passed s (judging.judged (s .head) (s .rows) u cost now)
-unfolding page.judged judging.judged judging.flowed judging.rank-at
+unfolding page.judged page.ranked judging.judged judging.flowed judging.rank-at
 judged-is s u cost now =
     let h = s .head in
     let e = entering.entry (s .rows) (h .tracked) (h .«unit_room») u now in
@@ -112,6 +115,35 @@ judged-is s u cost now =
     let o = judging.outcome (h .flow) (h .level) used rank cost now in
     rw (entry-is s u now, used-is t (e .place .at), outcome-is (h .flow) (h .level) used rank cost now, admitted-is (o .verdict) (h .flow .admitted) cost)
     (rw (back-is (with-flow t (judging.flowed (h .flow) o cost now)) (e .place .at) (o .used)) refl)
+
+-- ---- the rule
+-- over the level, where the reserve holds in all dimensions, and within it
+reserved-is : (w : Bool) (n : ℕ) (x y : Rule) → cond (w || leb flow.dims n) x y ≡ cond w x (cond (ltb n flow.dims) y x)
+reserved-is true n x y = refl
+reserved-is false n x y = go (ltb n flow.dims) refl
+  where
+    go : (b : Bool) → ltb n flow.dims ≡ b → cond (leb flow.dims n) x y ≡ cond b y x
+    go true e = rw (lt-leb flow.dims n (ltb-true n flow.dims e)) refl
+    go false e = rw (le-leb flow.dims n (ltb-false n flow.dims e)) refl
+
+-- from what the batch meets, as verdict/specs/Rules has it
+pub rule-met : (f : Flow) (level : List Float) (u : Use) (rank : Float) (cost : List Float) (now : ℕ)
+    → page.rule f level u rank cost now ≡ rules.rule-of (page.met f level u rank cost now .want) rank (page.met f level u rank cost now .credit) (page.met f level u rank cost now .buckets) cost
+unfolding page.rule page.met page.part-left rules.rule-of rules.reserved rules.credit-lacks rules.tokens-lack rules.reserve-lacks rules.side-of
+rule-met f level u rank cost now = rw (reserved-is _ _ _ _) refl
+
+pub rule-is : (f : Flow) (level : List Float) (u : Use) (rank : Float) (cost : List Float) (now : ℕ) → page.rule f level u rank cost now ≡ judging.rule f level u rank cost now
+unfolding page.met judging.rule rules.ruled flow.fills
+rule-is f level u rank cost now = rw (rule-met f level u rank cost now, weight-is (is-fresh (u .fresh)) (now - u .«at_ms»)) refl
+
+pub ruled-is : (s : State) (u : Unit) (cost : List Float) (now : ℕ) → page.ruled s u cost now ≡ judging.ruled (s .head) (s .rows) u cost now
+unfolding page.ruled page.ranked judging.ruled judging.rank-at
+ruled-is s u cost now =
+    let h = s .head in
+    let e = entering.entry (s .rows) (h .tracked) (h .«unit_room») u now in
+    let t = entered s e .state in
+    let used = entering.used-at (e .rows .units) (e .rows .uses) (h .overflow) (e .place .at) in
+    rw (entry-is s u now, used-is t (e .place .at), rule-is (h .flow) (h .level) used (judging.rank-at (hash-of u) (e .place .at) (h .«unit_room»)) cost now) refl
 
 -- ---- the count
 abbrev pub tallied : State → counting.Tally → State

@@ -11,7 +11,6 @@ use lib.Ieee.{Float}
 use borrow.Author.Tests.{lt-ltb}
 use Rattle.flow.specs.Flow as flow
 use Rattle.sender.specs.declared.Words.{Words}
-use Rattle.sender.specs.declared.Unit.the-variants as units
 use Rattle.sender.specs.Sender.{name-of, is-overflow, rank}
 use Rattle.store.specs.Store as store
 use Rattle.store.specs.Store.{Rows, rows, name-at, record-at}
@@ -120,14 +119,15 @@ uses s u clock next w y x p q r =
     }
 
 module _ (s : State) (u : Unit) (cost : List Float) (clock : ℕ) (w : Tracked s u) where
-  found-use : page.used-at (entered s u clock) (place s u clock) ≡ use-in (entered s u clock) (place s u clock)
+  pub found-use : page.used-at (entered s u clock) (place s u clock) ≡ use-in (entered s u clock) (place s u clock)
   unfolding page.used-at
   found-use = simp (lt-ltb (place s u clock) (length (entered s u clock .rows .units)) (in-its-record s u clock w .below))
 
-  ranked : cond (ltb (place s u clock) (s .head .«unit_room»)) (rank u) (rank units.Overflow) ≡ rank u
+  pub ranked : page.ranked s u (place s u clock) ≡ rank u
+  unfolding page.ranked
   ranked = simp (lt-ltb (place s u clock) (s .head .«unit_room») (in-its-record s u clock w .room))
 
-  outcome-is : page.outcome (s .head .flow) (s .head .level) (page.used-at (entered s u clock) (place s u clock)) (cond (ltb (place s u clock) (s .head .«unit_room»)) (rank u) (rank units.Overflow)) cost clock
+  outcome-is : page.outcome (s .head .flow) (s .head .level) (page.used-at (entered s u clock) (place s u clock)) (page.ranked s u (place s u clock)) cost clock
       ≡ page.outcome (s .head .flow) (s .head .level) (use-in (entered s u clock) (place s u clock)) (rank u) cost clock
   outcome-is = rw (found-use, ranked) refl
 

@@ -2,7 +2,7 @@
 use mathlib.Core.Path.{_≡_, refl}
 use mathlib.Core.Bool.{Bool, true, false, cond, _&&_, _||_}
 use mathlib.Core.List.{List, [], _∷_, _++_}
-use Prim.Native.Nat.{ℕ, max}
+use Prim.Native.Nat.{ℕ}
 use lib.Dec.{eqb}
 use lib.ListN.{length, drop}
 use borrow.Author.Tests.{eq-eqb}
@@ -17,7 +17,8 @@ use Rattle.head.specs.declared.Reading.the-variants as reading
 use Rattle.head.specs.declared.LevelRead.the-variants as levels
 use Rattle.head.specs.declared.RateRead.the-variants as rates
 use Rattle.head.specs.declared.BoundedRead.the-variants as bounds
-use Rattle.head.specs.Readings.{index-of, dim-of}
+use Rattle.flow.specs.Flow.{dim-of}
+use Rattle.head.specs.Readings.{index-of}
 use Rattle.flow.specs.Flow.{numbers}
 use Rattle.judge.specs.Judging.{answer-of}
 use Rattle.report_lines.specs.Lines.{text}
@@ -80,12 +81,12 @@ unfolding page.start numbers-of
 start s rate ceiling = start-0 s _ ((1, page.rates-whole rate) ∷ (2, page.records-whole s && page.rooms-whole (length (s .rows .units)) (length (s .counted))) ∷ [])
 
 judge : (s : State) (u : Unit) (cost : List ℕ) (stamp : ℕ) → among (judge-number (page.judge s u cost stamp .answer)) (0 ∷ 3 ∷ 4 ∷ 5 ∷ 6 ∷ []) ≡ true
-unfolding page.judge page.bounded judge-number numbers-of
+unfolding page.judge page.judge-asks page.bounded judge-number numbers-of
 judge s u cost stamp =
     let free = page.is-unbounded (s .head .flow .rate) in
     asked (λ (a : After Answer). judge-number (a .answer)) (λ n. after (answer.Refused n) s) (cond free (after answer.Admitted s) (page.bounded s u cost stamp))
-    ((3, page.head-whole (s .head)) ∷ (4, page.memory-whole s) ∷ (5, page.costs-held cost) ∷ (6, page.is-stamp stamp) ∷ []) (λ n. refl)
-    (free-0 free (page.bounded s u cost stamp) s (verdict-0 (page.judged s u (numbers cost) (max stamp (s .head .flow .«at_ms»)) .answer)))
+    (page.judge-asks s cost stamp) (λ n. refl)
+    (free-0 free (page.bounded s u cost stamp) s (verdict-0 (page.judged s u (numbers cost) (page.clock-by s stamp) .answer)))
 
 cut-0 : (s x : State) (qs : List (ℕ × Bool)) → among (cut-number (ask qs (λ n. after (done.Refused n) s) (after done.Counted x) .answer)) (0 ∷ numbers-of qs) ≡ true
 unfolding cut-number

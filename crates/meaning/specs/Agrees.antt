@@ -41,6 +41,7 @@ asked-with h m room = reports.report-asked h (length (m .rows .tags)) (length (m
 pub record Agrees : Type 0 where
   pub start-is : (h : Shedder) (m : Memory) (rate ceiling : List ℕ) → page.start (of h m) rate ceiling ≡ started m (start-with h m rate ceiling)
   pub judge-is : (h : Shedder) (m : Memory) (u : Unit) (cost : List ℕ) (stamp : ℕ) → page.judge (of h m) u cost stamp ≡ judged (judging.judge h m u cost stamp)
+  pub rule-is : (h : Shedder) (m : Memory) (u : Unit) (cost : List ℕ) (stamp : ℕ) → page.judge-rule (of h m) u cost stamp ≡ judging.ruling h m u cost stamp
   pub cut-is : (h : Shedder) (m : Memory) (u : Unit) (c : Cause) (cost : List ℕ) → page.cut (of h m) u c cost ≡ cut (m .hist) (cutting.cut h (m .rows) (m .counted) u c cost)
   pub report-is : (h : Shedder) (m : Memory) (out : List ℕ) → reports.ends (page.report (of h m) out .answer) (page.report (of h m) out .out) ≡ report-with h m out
   pub front-is : (h : Shedder) (m : Memory) (out : List ℕ) → page.report (of h m) out .front ≡ front-with h m (length out)

@@ -9,9 +9,12 @@ use lib.Ieee.{Float, binary64, ofBits}
 use Rattle.ieee.specs.Doubles.{_⊕_, _⊖_, _⊗_, _⊘_, _⊴_, _⊲_, whole, nothing, one, half, thousand}
 use Rattle.ieee.specs.Extremes.{least, most, clamped}
 use Rattle.fade.specs.Fade.{fade}
-use Rattle.flow.specs.Flow.{dims, numbers, seconds, zeros, largest, all, bucket-at, is-fresh, added as new-use}
+use Rattle.flow.specs.Flow.{dims, numbers, seconds, zeros, largest, all, dim-of, dim-at, bucket-at, is-fresh, added as new-use}
 use Rattle.verdict.specs.Verdict.{is-admitted}
 use Rattle.verdict.specs.declared.Verdict.the-variants as verdict
+use Rattle.verdict.specs.declared.Side.the-variants as sides
+use Rattle.verdict.specs.declared.Rule.the-variants as rules
+use Rattle.verdict.specs.Rules.{lacking}
 use Rattle.sender.specs.declared.Unit.the-variants as units
 use Rattle.sender.specs.Sender.{name-of, is-overflow, rank}
 use Rattle.store.specs.Store as store
@@ -22,13 +25,14 @@ use Rattle.cut_sources.specs.Counted as counts
 use Rattle.cut_sources.specs.Sorted.{sorted}
 use Rattle.head.specs.declared.Begin.the-variants as begin
 use Rattle.head.specs.declared.Answer.the-variants as answer
+use Rattle.head.specs.declared.Ruling.the-variants as ruling
 use Rattle.head.specs.declared.Done.the-variants as done
 use Rattle.head.specs.declared.Written.the-variants as written
 use Rattle.head.specs.declared.Reading.the-variants as reading
 use Rattle.head.specs.declared.LevelRead.the-variants as levels
 use Rattle.head.specs.declared.RateRead.the-variants as rates
 use Rattle.head.specs.declared.BoundedRead.the-variants as bounds
-use Rattle.head.specs.Readings.{index-of, dim-of}
+use Rattle.head.specs.Readings.{index-of}
 use Rattle.cut_counts.specs.Counting.{added, cause-of}
 use Rattle.scan.specs.Walking.{walk-use, walk}
 use Rattle.scan_trim.specs.Trimming.{is-finite}
@@ -36,7 +40,7 @@ use Rattle.judge.specs.Judging.{answer-of}
 use Rattle.report_lines.specs.Lines.{text}
 use Rattle.meaning.specs.State.{State, After, after, with-head, with-rows, with-hist, with-flow, with-overflow, with-tracked, with-visit, with-level, scan-at, scan-read, flow-at, with-tokens, new-head, no-buckets}
 use Rattle.meaning.specs.State.{ask, _<=?_, _<?_, _=?_, _!_, _#_, parts, each}
-use Rattle.meaning.specs.State.{Unit, Name, Cause, Dim, Verdict, Outcome, Bucket, Use, Flow, Shedder, Begin, Answer, Done, Written, Reading, LevelRead, RateRead, BoundedRead}
+use Rattle.meaning.specs.State.{Unit, Name, Cause, Dim, Verdict, Outcome, Rule, Ruling, Bucket, Use, Flow, Shedder, Begin, Answer, Done, Written, Reading, LevelRead, RateRead, BoundedRead}
 
 -- ==== The numbers, by the Rust's names where it has them; a double by its bits
 -- a relay that is not bounded; the highest rate and cost, 2^40, which is also the most of a ceiling that a burst takes; stamps are below 2^53
@@ -181,9 +185,17 @@ decided want credit tokens reserve =
     (cond (not credit) verdict.OverShare (cond (not tokens) verdict.RelayRate verdict.Admitted))
     (cond (credit && tokens && reserve) verdict.Admitted verdict.OverShare)
 
--- on a record: refill, credit, weigh, fade, add, decide. An admission alone spends tokens and credit; what was tried stays in any case
-unfoldable pub outcome : Flow → (level : List Float) → Use → (rank : Float) (cost : List Float) (clock : ℕ) → Outcome
-outcome f level u rank cost clock =
+-- what a batch meets on a record: the buckets refilled, the credit, what was tried with this batch, the want, and the mark that a want over the level must leave
+pub record Met : Type 0 where
+  pub buckets : List Bucket
+  pub credit : List Float
+  pub attempted : List Float
+  pub want : Float
+  pub mark : Float
+
+-- refill, credit, weigh, fade, add
+unfoldable pub met : Flow → (level : List Float) → Use → (rank : Float) (cost : List Float) (clock : ℕ) → Met
+met f level u rank cost clock =
     let refilled = each (f .buckets) λ d. let b = bucket-at (f .buckets) d in with-tokens b (least (b .tokens ⊕ whole (clock - f .«at_ms») ⊗ b .«rate_per_ms») (b .burst)) in
     let fresh = is-fresh (u .fresh) in
     let idle = clock - u .«at_ms» in
@@ -194,27 +206,60 @@ outcome f level u rank cost clock =
     let attempted = each faded λ d. faded ! d ⊕ cost ! d in
     let want = largest (λ d. (attempted ! d ⊕ (weight ⊖ one) ⊗ cost ! d) ⊘ «WINDOW_SECS» ⊘ level ! d) dims in
     let mark = «RESERVE» ⊗ (one ⊖ one ⊘ (want ⊗ (one ⊕ rank ⊗ «RANK_WEIGHT»))) in
-    let credit-holds = all (λ d. cost ! d ⊴ credit ! d) dims in
-    let tokens-hold = all (λ d. cost ! d ⊴ bucket-at refilled d .tokens) dims in
-    let reserve-holds = all (λ d. mark ⊴ (bucket-at refilled d .tokens ⊖ cost ! d) ⊘ bucket-at refilled d .burst) dims in
-    let verdict = decided want credit-holds tokens-hold reserve-holds in
-    let spent = each refilled λ d. with-tokens (bucket-at refilled d) (bucket-at refilled d .tokens ⊖ cost ! d) in
-    let charged = each credit λ d. credit ! d ⊖ cost ! d in
+    record { buckets = refilled; credit = credit; attempted = attempted; want = want; mark = mark }
+
+-- the part of a dimension's burst that the batch would leave
+unfoldable pub part-left : Met → (cost : List Float) (d : ℕ) → Float
+part-left m cost d = (bucket-at (m .buckets) d .tokens ⊖ cost ! d) ⊘ bucket-at (m .buckets) d .burst
+
+-- decide. An admission alone spends tokens and credit; what was tried stays in any case
+unfoldable pub outcome : Flow → (level : List Float) → Use → (rank : Float) (cost : List Float) (clock : ℕ) → Outcome
+outcome f level u rank cost clock =
+    let m = met f level u rank cost clock in
+    let credit-holds = all (λ d. cost ! d ⊴ m .credit ! d) dims in
+    let tokens-hold = all (λ d. cost ! d ⊴ bucket-at (m .buckets) d .tokens) dims in
+    let reserve-holds = all (λ d. m .mark ⊴ part-left m cost d) dims in
+    let verdict = decided (m .want) credit-holds tokens-hold reserve-holds in
+    let spent = each (m .buckets) λ d. with-tokens (bucket-at (m .buckets) d) (bucket-at (m .buckets) d .tokens ⊖ cost ! d) in
+    let charged = each (m .credit) λ d. m .credit ! d ⊖ cost ! d in
     record {
       verdict = verdict;
-      buckets = cond (is-admitted verdict) spent refilled;
-      used = record { attempted = attempted; credit = cond (is-admitted verdict) charged credit; «at_ms» = max (u .«at_ms») clock; fresh = 0 };
+      buckets = cond (is-admitted verdict) spent (m .buckets);
+      used = record { attempted = m .attempted; credit = cond (is-admitted verdict) charged (m .credit); «at_ms» = max (u .«at_ms») clock; fresh = 0 };
     }
+
+-- the rank that a judgement goes by: that of the unit, or overflow's where its record is used
+unfoldable pub ranked : State → Unit → (place : ℕ) → Float
+ranked s u i = cond (i <? s .head .«unit_room») (rank u) (rank units.Overflow)
 
 -- on the state: the outcome on the record used, ranked by its unit, and put back there
 unfoldable pub judged : State → Unit → (cost : List Float) (clock : ℕ) → After Verdict
 judged s u cost clock =
     let f = s .head .flow in
     let e = entry s u clock in
-    let ranked = cond (e .answer <? s .head .«unit_room») (rank u) (rank units.Overflow) in
-    let o = outcome f (s .head .level) (used-at (e .state) (e .answer)) ranked cost clock in
+    let o = outcome f (s .head .level) (used-at (e .state) (e .answer)) (ranked s u (e .answer)) cost clock in
     let admitted = cond (is-admitted (o .verdict)) (parts λ d. f .admitted ! d ⊕ cost ! d) (f .admitted) in
     after (o .verdict) (put-back (with-flow (e .state) (flow-at f (o .buckets) clock admitted)) (e .answer) (o .used))
+
+-- ==== The rule that decides (document 02, K1)
+-- credit, then tokens, then, over the level, the reserve; each is asked of receptions, then of bytes, and the first dimension that lacks is named. specs/Told: the verdict is that of the rule
+unfoldable pub rule : Flow → (level : List Float) → Use → (rank : Float) (cost : List Float) (clock : ℕ) → Rule
+rule f level u rank cost clock =
+    let m = met f level u rank cost clock in
+    let side = cond (m .want ⊴ one) sides.Within sides.Over in
+    let no-credit = lacking (λ d. cost ! d ⊴ m .credit ! d) dims in
+    let no-tokens = lacking (λ d. cost ! d ⊴ bucket-at (m .buckets) d .tokens) dims in
+    let no-reserve = lacking (λ d. m .mark ⊴ part-left m cost d) dims in
+    cond (no-credit <? dims) (rules.Credit side (dim-at no-credit))
+    (cond (no-tokens <? dims) (rules.Tokens side (dim-at no-tokens))
+    (cond (m .want ⊴ one || dims <=? no-reserve) (rules.Admitted (m .want))
+    (rules.Reserve (dim-at no-reserve) (m .mark) (part-left m cost no-reserve))))
+
+-- on the state: the rule on the record used
+unfoldable pub ruled : State → Unit → (cost : List Float) (clock : ℕ) → Rule
+ruled s u cost clock =
+    let e = entry s u clock in
+    rule (s .head .flow) (s .head .level) (used-at (e .state) (e .answer)) (ranked s u (e .answer)) cost clock
 
 -- ==== The counts of a cut (document 01: cuts and report, `count`, `add`)
 -- a batch and its receptions more for the cause, and one cut more of the unit named, whichever record was used. Where that takes the spare row, only the sources stay whose total is above the one at a quarter of the ascending totals
@@ -286,21 +331,37 @@ scanned s clock =
     cond (runs begun) (cond (runs twice) twice (trimmed twice)) begun
 
 -- ==== Judge: 3, 4, 5, 6
--- the clock never goes back; the verdict, the count of a cut, the scan
+-- the clock never goes back
+unfoldable pub clock-by : State → (stamp : ℕ) → ℕ
+clock-by s stamp = max stamp (s .head .flow .«at_ms»)
+
+-- the verdict, the count of a cut, the scan
 unfoldable pub bounded : State → Unit → (cost : List ℕ) (stamp : ℕ) → After Answer
 bounded s u cost stamp =
-    let clock = max stamp (s .head .flow .«at_ms») in
+    let clock = clock-by s stamp in
     let j = judged s u (numbers cost) clock in
     let noted = cond (is-admitted (j .answer)) (j .state) (counted (j .state) (name-of u) (cause-of (j .answer)) (cost # 0)) in
     after (answer-of (j .answer)) (scanned noted clock)
+
+unfoldable pub judge-asks : State → (cost : List ℕ) (stamp : ℕ) → List (ℕ × Bool)
+judge-asks s cost stamp = (3, head-whole (s .head)) ∷ (4, memory-whole s) ∷ (5, costs-held cost) ∷ (6, is-stamp stamp) ∷ []
 
 -- an unbounded relay admits, seeks no record and changes nothing
 unfoldable pub judge : State → Unit → (cost : List ℕ) (stamp : ℕ) → After Answer
 judge s u cost stamp =
     let free = is-unbounded (s .head .flow .rate) in
-    ask ((3, head-whole (s .head)) ∷ (4, memory-whole s) ∷ (5, costs-held cost) ∷ (6, is-stamp stamp) ∷ [])
+    ask (judge-asks s cost stamp)
     (λ n. after (answer.Refused n) s)
     (cond free (after answer.Admitted s) (bounded s u cost stamp))
+
+-- the rule that it answers beside the verdict: none where it is refused, a want of 0 on an unbounded relay
+unfoldable pub judge-rule : State → Unit → (cost : List ℕ) (stamp : ℕ) → Ruling
+judge-rule s u cost stamp =
+    let free = is-unbounded (s .head .flow .rate) in
+    let clock = clock-by s stamp in
+    ask (judge-asks s cost stamp)
+    (λ n. ruling.Refused)
+    (cond free (ruling.Ruled (rules.Admitted nothing)) (ruling.Ruled (ruled s u (numbers cost) clock)))
 
 -- ==== Cut: 3, 4, 5 (document 01: cuts and report, `cut`)
 -- the whole cost back: tokens up to the burst, admitted and attempted down to 0, credit without a cap; a record added for it is fresh, stamped with the clock

@@ -15,6 +15,7 @@ use Rattle.scan_trim.specs.Trimming.{scan-then}
 pub use Rattle.flow.specs.declared.Bucket.{Bucket}
 pub use Rattle.flow.specs.declared.Use.{Use}
 pub use Rattle.verdict.specs.declared.Outcome.{Outcome}
+pub use Rattle.verdict.specs.declared.Rule.{Rule}
 pub use Rattle.verdict.specs.declared.Verdict.{Verdict}
 pub use Rattle.sender.specs.declared.Unit.{Unit}
 pub use Rattle.sender.specs.declared.Name.{Name}
@@ -22,9 +23,10 @@ pub use Rattle.head.specs.declared.Flow.{Flow}
 pub use Rattle.head.specs.declared.Scan.{Scan}
 pub use Rattle.head.specs.declared.Shedder.{Shedder}
 pub use Rattle.head.specs.declared.Cause.{Cause}
-pub use Rattle.head.specs.declared.Dim.{Dim}
+pub use Rattle.flow.specs.declared.Dim.{Dim}
 pub use Rattle.head.specs.declared.Begin.{Begin}
 pub use Rattle.head.specs.declared.Answer.{Answer}
+pub use Rattle.head.specs.declared.Ruling.{Ruling}
 pub use Rattle.head.specs.declared.Done.{Done}
 pub use Rattle.head.specs.declared.Written.{Written}
 pub use Rattle.head.specs.declared.Reading.{Reading}

@@ -19,12 +19,14 @@ use Rattle.cut.specs.declared.Cutting.{Cutting}
 use Rattle.cut.specs.Cutting as cutting
 use Rattle.report.specs.Report as reports
 use Rattle.codes.specs.declared.Count.{Count}
-use Rattle.codes.specs.Numbers.{judge-code, read-written}
-use Rattle.meaning.specs.State.{After, after, told-as}
+use Rattle.codes.specs.declared.Decision.{Decision}
+use Rattle.codes.specs.Numbers.{read-written}
+use Rattle.codes.specs.Decisions.{decision-of}
+use Rattle.meaning.specs.State.{after, told-as, Answer, Ruling}
 use Rattle.meaning.specs.Page as page
 use Rattle.meaning.specs.Agrees.{of, started, judged, cut, start-with, report-with, asked-with}
 use Rattle.meaning.proofs.Agrees.{agrees}
-use Rattle.tankpost.specs.Calls.{reported, report-told}
+use Rattle.tankpost.specs.Calls.{judged-as, reported, report-told}
 
 module _ (h : Shedder) (m : Rows) (g : Hist) (k : List (List ℕ)) where
   abbrev lent : Memory
@@ -37,13 +39,17 @@ module _ (h : Shedder) (m : Rows) (g : Hist) (k : List (List ℕ)) where
       ∙ ap (λ (b : starts.Beginning). told-as start-number (started lent b)) e
       ∙ sym (ap (told-as start-number) (agrees .start-is h lent rate ceiling))
 
-  pub judge-tells : (u v : Unit) (cost : List ℕ) (stamp : ℕ) (j : Judgement) (left : Memory) (n : ℕ)
-      → judging.judgement j left ≡ judging.judge h lent u cost stamp → u ≡ v → n ≡ judge-code (j .answer)
-      → after n (of (j .head) left) ≡ told-as judge-code (page.judge (of h lent) v cost stamp)
-  judge-tells u v cost stamp j left n e eu en =
-      ap (λ (x : ℕ). after x (of (j .head) left)) en
-      ∙ ap (λ (x : judging.Judged). told-as judge-code (judged x)) (e ∙ ap (λ (x : Unit). judging.judge h lent x cost stamp) eu)
-      ∙ sym (ap (told-as judge-code) (agrees .judge-is h lent v cost stamp))
+  pub judge-tells : (u v : Unit) (cost : List ℕ) (stamp : ℕ) (j : Judgement) (left : Memory) (n : Decision)
+      → judging.judgement j left ≡ judging.judge h lent u cost stamp → j .ruling ≡ judging.ruling h lent u cost stamp → u ≡ v → n ≡ decision-of (j .answer) (j .ruling)
+      → after n (of (j .head) left) ≡ judged-as decision-of (of h lent) v cost stamp
+  judge-tells u v cost stamp j left n e er eu en =
+      ap (λ (x : Decision). after x (of (j .head) left)) en
+      ∙ ap (λ (r : Ruling). after (decision-of (j .answer) r) (of (j .head) left)) (er ∙ ap (λ (x : Unit). judging.ruling h lent x cost stamp) eu ∙ sym (agrees .rule-is h lent v cost stamp))
+      ∙ ap (λ (x : judging.Judged). told-as told (judged x)) (e ∙ ap (λ (x : Unit). judging.judge h lent x cost stamp) eu)
+      ∙ sym (ap (told-as told) (agrees .judge-is h lent v cost stamp))
+    where
+      told : Answer → Decision
+      told a = decision-of a (page.judge-rule (of h lent) v cost stamp)
 
   pub cut-tells : (u v : Unit) (p q : Cause) (cost : List ℕ) (c : Cutting) (rows : Rows) (counted : List (List ℕ)) (n : ℕ)
       → cutting.cutting c rows counted ≡ cutting.cut h m k u p cost → u ≡ v → p ≡ q → n ≡ cut-number (c .answer)

@@ -6,11 +6,13 @@ ghost use Rattle.sender.specs.Sender.{unit-of};
 ghost use Rattle.wants.specs.Wants.{Hist};
 ghost use Rattle.head.specs.Answers.{start-number, cut-number};
 ghost use Rattle.head.specs.Bits.{Same-but-nan-bits};
-ghost use Rattle.codes.specs.Numbers.{judge-code, cause-of, dim-of, read-count, read-level, read-rate, read-bounded};
+ghost use Rattle.codes.specs.Numbers.{cause-of, dim-of, read-count, read-level, read-rate, read-bounded};
+ghost use Rattle.codes.specs.Decisions.{decision-of};
 ghost use Rattle.meaning.specs.State.{state, state-with, after, told-as};
 ghost use Rattle.meaning.specs.Page as page;
-ghost use Rattle.tankpost.specs.Calls.{reported, report-told};
+ghost use Rattle.tankpost.specs.Calls.{judged-as, reported, report-told};
 use codes::Count;
+use codes::Decision;
 use codes::Level;
 use flow::DIMS;
 use head::Shedder;
@@ -25,6 +27,13 @@ use wants::Sums;
 #[repr(C)]
 pub struct Answered {
     pub answer: u64,
+    pub head: Shedder,
+}
+
+// What a judgement answered, as numbers (crate codes), and the head after it.
+#[repr(C)]
+pub struct Judged {
+    pub decision: Decision,
     pub head: Shedder,
 }
 
@@ -66,7 +75,7 @@ pub extern "C" fn tankpost_start(
     }
 }
 
-// judge::judge of the unit that the words give: 0 admitted, 16 over-share, 17 relay-rate, or the number of the refusal.
+// judge::judge of the unit that the words give: the number of the refusal, or the verdict and the rule that decided it.
 #[no_mangle]
 pub extern "C" fn tankpost_judge(
     head: Shedder,
@@ -79,12 +88,12 @@ pub extern "C" fn tankpost_judge(
     unit: Words,
     cost: &[u64; DIMS],
     stamp: u64,
-) -> Answered
+) -> Judged
     ensures { λ r. ⌜ Same-but-nan-bits
-        (after (r .answer) (state (r .head) (now (tags .exit)) (now (units .exit)) (now (uses .exit)) (now (counts .exit)) (now (sums .exit)) (now (counted .exit))))
-        (told-as judge-code
-        (page.judge (state head (now (tags .entry)) (now (units .entry)) (now (uses .entry)) (now (counts .entry)) (now (sums .entry)) (now (counted .entry)))
-        (unit-of unit) (now (cost .entry)) stamp)) ⌝ }
+        (after (r .decision) (state (r .head) (now (tags .exit)) (now (units .exit)) (now (uses .exit)) (now (counts .exit)) (now (sums .exit)) (now (counted .exit))))
+        (judged-as decision-of
+        (state head (now (tags .entry)) (now (units .entry)) (now (uses .entry)) (now (counts .entry)) (now (sums .entry)) (now (counted .entry)))
+        (unit-of unit) (now (cost .entry)) stamp) ⌝ }
 {
     let j = judge::judge(
         head,
@@ -99,9 +108,10 @@ pub extern "C" fn tankpost_judge(
         stamp,
     );
     let answer = j.answer;
+    let ruling = j.ruling;
     let h = j.head;
-    Answered {
-        answer: codes::judge_code(answer),
+    Judged {
+        decision: codes::decision_of(answer, ruling),
         head: h,
     }
 }

@@ -25,12 +25,12 @@ use Rattle.verdict.specs.Laws as law
 use Rattle.verdict.specs.Laws.{Asked, Kept, Names, Pays}
 
 -- ---- the verdicts differ
-abbrev number : Verdict → ℕ
+abbrev pub number : Verdict → ℕ
 number Admitted = 0
 number OverShare = 1
 number RelayRate = 2
 
-apart : {v w : Verdict} → v ≡ w → (number v ≡ number w → ⊥) → ⊥
+pub apart : {v w : Verdict} → v ≡ w → (number v ≡ number w → ⊥) → ⊥
 apart e f = f (ap number e)
 
 -- ---- what the decision says, by its tests: w the want within the level, c credit, t tokens, r reserve

@@ -27,9 +27,13 @@ credit-holds credit cost = cost ⊴ credit
 abbrev pub tokens-hold : Bucket → Float → Bool
 tokens-hold b cost = cost ⊴ b .tokens
 
--- the part of the burst that the batch would leave reaches the mark
+-- the part of the burst that the batch would leave
+abbrev pub part-of : Bucket → Float → Float
+part-of b cost = (b .tokens ⊖ cost) ⊘ b .burst
+
+-- it reaches the mark
 abbrev pub reserve-holds : Bucket → Float → Float → Bool
-reserve-holds b cost mark = mark ⊴ (b .tokens ⊖ cost) ⊘ b .burst
+reserve-holds b cost mark = mark ⊴ part-of b cost
 
 -- 0.1: the part of the bucket that only sources within their share may spend
 abbrev pub «RESERVE» : Float

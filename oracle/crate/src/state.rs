@@ -10,6 +10,43 @@ fn held<T>(m: &Mutex<T>) -> std::sync::MutexGuard<'_, T> {
     m.lock().unwrap()
 }
 
+/// The question that decided a batch: `within` the level, and the first dimension that lacked.
+#[derive(Clone, Copy, Debug, PartialEq)]
+pub enum Asked {
+    Admitted(f64),
+    Credit { within: bool, dim: usize },
+    Tokens { within: bool, dim: usize },
+    Reserve { dim: usize, mark: f64, part: f64 },
+}
+
+thread_local! {
+    /// That of the last judgement of a bounded relay.
+    static ASKED: std::cell::Cell<Option<Asked>> = const { std::cell::Cell::new(None) };
+}
+
+/// Document 02, K1: each question asked by itself of receptions, then of bytes.
+fn asked(wants: f64, rank: f64, credit: [f64; DIMS], buckets: &[Bucket; DIMS], cost: [f64; DIMS]) -> Asked {
+    let within = wants <= 1.0;
+    let first = |holds: &dyn Fn(usize) -> bool| (0..DIMS).find(|dim| !holds(*dim));
+    if let Some(dim) = first(&|dim| credit[dim] >= cost[dim]) {
+        return Asked::Credit { within, dim };
+    }
+    if let Some(dim) = first(&|dim| buckets[dim].tokens >= cost[dim]) {
+        return Asked::Tokens { within, dim };
+    }
+    let mark = RESERVE * (1.0 - 1.0 / (wants * (1.0 + rank * 1e-6)));
+    let part = |dim: usize| (buckets[dim].tokens - cost[dim]) / buckets[dim].burst;
+    match first(&|dim| within || part(dim) >= mark) {
+        Some(dim) => Asked::Reserve { dim, mark, part: part(dim) },
+        None => Asked::Admitted(wants),
+    }
+}
+
+/// The question that decided the last judgement of a bounded relay.
+pub fn last_asked() -> Option<Asked> {
+    ASKED.get()
+}
+
 /// A unit's use: two sums, two credits, stamp, fresh.
 pub type UseWords = [u64; 6];
 

@@ -1,10 +1,11 @@
 //! The Rust and this side by side: each step is made on both, and what they answer and hold is compared.
 use crate::questions;
 use crate::report::text_of;
+use crate::rules;
 use crate::shed::{self, bits, Cause, Cost, Rates, Unit, HEAD_WORDS};
 use crate::standin::{SOURCES_COUNTED, UNITS_TRACKED};
 use crate::steps::{Random, Step};
-use crate::tankpost::{Bucket, Head, Shedder, Words, OVER_SHARE, RELAY_RATE};
+use crate::tankpost::{Bucket, Head, Shedder, Words};
 use crate::units::{tag_of, unit_of, words_of};
 use std::sync::atomic::Ordering;
 
@@ -59,14 +60,6 @@ fn set_head_words(h: &mut Head, w: &[u64; HEAD_WORDS]) {
     (h.visits, h.level) = (w[30], pair(31));
     h.batches = [w[33], w[34], w[35]];
     h.receptions = [w[36], w[37], w[38]];
-}
-
-fn code(verdict: Result<(), Cause>) -> u64 {
-    match verdict {
-        Ok(()) => 0,
-        Err(Cause::OverShare) => OVER_SHARE,
-        Err(_) => RELAY_RATE,
-    }
 }
 
 fn index(cause: Cause) -> u64 {
@@ -182,9 +175,11 @@ impl Both {
             Step::Start(rate, ceiling) => self.start(rate, ceiling),
             Step::Judge(unit, cost, stamp) => {
                 let asked = questions::judge(&self.here, cost, stamp);
-                let answer = self.here.judge(words_of(unit), cost, stamp);
+                let answer = self.here.decision(words_of(unit), cost, stamp);
                 let rust = self.rust.as_ref().filter(|_| asked == 0);
-                differs("judge", rust.map_or(asked, |r| code(r.judge(unit, cost_of(cost), stamp))), answer)?;
+                let expected = rust.map_or(rules::refused(asked), |r| rules::judged(r, unit, cost_of(cost), stamp));
+                differs("judge", expected, rules::words_of(&answer))?;
+                differs("judge by name", rules::named(&expected), rules::told(answer.told()))?;
                 self.same_unit(unit)
             }
             Step::Cut(unit, cause, cost) => {

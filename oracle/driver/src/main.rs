@@ -10,6 +10,7 @@ mod lines;
 mod questions;
 mod refusals;
 mod report;
+mod rules;
 mod shed;
 mod standin;
 mod steps;
@@ -71,7 +72,7 @@ fn lists(file: &str, writes: bool) {
         must_agree(&format!("list {i}"), &List { units, counted, steps, any_bits });
         count += 1;
     }
-    println!("{count} lists, {calls} calls, {written} writes: no difference");
+    println!("{count} lists, {calls} calls, {written} writes: no difference; {}", rules::met());
 }
 
 fn main() {
@@ -83,7 +84,7 @@ fn main() {
             let steps = large::list(args[2].parse().unwrap());
             let list = List { units: large::UNITS, counted: large::COUNTED, steps, any_bits: Some(1) };
             must_agree("the large list", &list);
-            println!("1 list of {} units and {} counted records, {} calls: no difference", list.units, list.counted, list.steps.len());
+            println!("1 list of {} units and {} counted records, {} calls: no difference; {}", list.units, list.counted, list.steps.len(), rules::met());
         }
         "refusals" => match refusals::run(args[2].parse().unwrap()) {
             Ok(made) => println!("{} lists of refusals, calls by number (0: not refused) {made:?}: no difference", args[2]),

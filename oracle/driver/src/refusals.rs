@@ -1,6 +1,7 @@
 //! Lists of refusals: heads, memory, costs and stamps that the questions refuse. The number is that of the model in
 //! questions.rs; head and all lent memory are compared byte for byte before and after.
 use crate::questions;
+use crate::rules;
 use crate::shed::Unit;
 use crate::steps::Random;
 use crate::tankpost::{Shedder, Words};
@@ -33,7 +34,7 @@ fn used(random: &mut Random) -> Shedder {
     assert_eq!(s.start(rate, [random.sized(), random.sized()]), 0);
     for i in 0..random.below(200) as u64 {
         let unit = Words { kind: 1, a: random.below(30) as u64, ..Words::default() };
-        s.judge(unit, [random.below(20) as u64, random.below(2_000) as u64], 40 * i);
+        s.decision(unit, [random.below(20) as u64, random.below(2_000) as u64], 40 * i);
     }
     s
 }
@@ -71,13 +72,17 @@ fn call(s: &mut Shedder, random: &mut Random) -> (u64, u64) {
     let unit = words_of(random.one(&[Unit::Overflow, Unit::Group(None)]));
     let cost = [(); 2].map(|_| random.one(&[0, 1, MOST, MOST + 1, u64::MAX]));
     let stamp = random.one(&[0, 5_000, STAMP, STAMP + 1, u64::MAX]);
-    let refusal = |answer: u64| if answer < 10 { answer } else { 0 };
     match random.below(9) {
         0 => {
             let rate = [(); 2].map(|_| random.one(&[0, 1, MOST, MOST + 1, u64::MAX]));
             (questions::start(s, rate), s.start(rate, cost))
         }
-        1 | 2 => (questions::judge(s, cost, stamp), refusal(s.judge(unit, cost, stamp))),
+        1 | 2 => {
+            let asked = questions::judge(s, cost, stamp);
+            let answer = s.decision(unit, cost, stamp);
+            assert!(asked == 0 || rules::words_of(&answer) == rules::refused(asked), "refused with a verdict or a rule: {answer:?}");
+            (asked, answer.refusal)
+        }
         3 => (questions::cut(s, cost), s.cut(unit, random.sized(), cost)),
         4 | 5 => {
             let asked = questions::report(s);

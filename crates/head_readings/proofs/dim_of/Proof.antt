@@ -1,4 +1,4 @@
-use Rattle.head.specs.Readings.{dim-of}
+use Rattle.flow.specs.Flow.{dim-of}
 use borrow.Author.Needs.{needs}
 use Rattle.head_readings.proofs.dim_of.Statement.{statement}
 use Rattle.head_readings.proofs.dim_of.Tie as tie

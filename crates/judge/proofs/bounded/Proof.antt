@@ -1,4 +1,4 @@
-use Rattle.judge.proofs.Bounding.{bounded-is}
+use Rattle.judge.proofs.Bounding.{bounded-is, ruling-is}
 use Rattle.head.proofs.Bounds.{le-by, lt-by, le-to, le-within, sum-within}
 use Rattle.head.specs.declared.Scan.{Scan}
 use mathlib.Core.Path.{ap, _∙_}
@@ -51,9 +51,9 @@ scanned-requires c κs =
           le-by (at-counted .count-verdict .ensures .1 .0)
               (le-to (at-judged .judged .ensures .1 .0) (at-judged .judged .kept .1 .1 .1 .0 ∙ at-start .pre .1 .1 .1 .uses-room)),
           (
-            lt-by (ap (λ (s : Scan). s .«began_ms») (at-counted .count-verdict .ensures .1 .1 ∙ at-judged .judged .ensures .1 .1 .1 .1))
+            lt-by (ap (λ (s : Scan). s .«began_ms») (at-counted .count-verdict .ensures .1 .1 ∙ at-judged .judged .ensures .1 .1 .1 .1 .0))
                 (at-start .pre .1 .1 .1 .began-held),
-            le-by (ap (λ (s : Scan). s .remaining + s .next) (at-counted .count-verdict .ensures .1 .1 ∙ at-judged .judged .ensures .1 .1 .1 .1))
+            le-by (ap (λ (s : Scan). s .remaining + s .next) (at-counted .count-verdict .ensures .1 .1 ∙ at-judged .judged .ensures .1 .1 .1 .1 .0))
                 (at-start .pre .1 .1 .1 .tables-held),
           ),
         ),
@@ -98,7 +98,11 @@ returns c =
           (at-judged .judged .result) _ _ _ (args .name) (at-counted .count-verdict .result) _ _ (at-scanned .scanned .result) _ _ (c .answer-of .result)
           (at-later .later .ensures) (at-numbers .numbers .ensures) (at-judged .judged .ensures .0) (at-start .pre .1 .0) (at-counted .count-verdict .ensures .0)
           (at-scanned .scanned .ensures) (c .answer-of .ensures .0),
-      c .answer-of .ensures .1,
+      (
+        c .answer-of .ensures .1,
+        ruling-is (args .head) _ (args .unit) (args .cost) (args .stamp) (at-later .later .result) (at-numbers .numbers .result) _
+            (at-later .later .ensures) (at-numbers .numbers .ensures) (at-judged .judged .ensures .1 .1 .1 .1 .1),
+      ),
     )
 
 pub bounded-spec : {M : Type 1} → statement M

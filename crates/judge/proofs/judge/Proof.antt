@@ -2,7 +2,7 @@ use Rattle.head.proofs.Asked.{asked-ready}
 use Rattle.head.proofs.Bounds.{le-to, le-within}
 use Rattle.head.specs.Answers.{judge-number}
 use Rattle.sender.specs.Sender.{name-by-hash}
-use Rattle.judge.specs.Judging.{judge}
+use Rattle.judge.specs.Judging.{judge, ruling}
 use borrow.Author.Tests.{eq-eqb, ne-eqb}
 use mathlib.Core.Path.{sym, ap, _∙_}
 use borrow.Author.Needs.{needs}
@@ -13,19 +13,25 @@ judge-asked-requires : tie.Need-judge-asked-requires
 judge-asked-requires c κs = search needs
 
 returns : tie.Need-returns
-unfolding judge judge-number
-returns c = (simp (sym (c .before .judge-asked .ensures), ne-eqb _ _ (c .if1 .taken)), c .before .judge-asked .ensures)
+unfolding judge judge-number ruling
+returns c = (
+  simp (sym (c .before .judge-asked .ensures), ne-eqb _ _ (c .if1 .taken)),
+  (c .before .judge-asked .ensures, simp (sym (c .before .judge-asked .ensures), ne-eqb _ _ (c .if1 .taken))),
+)
 
 is-unbounded-requires : tie.Need-is-unbounded-requires
 is-unbounded-requires c κs = search needs
 
 returns-2 : tie.Need-returns-2
-unfolding judge judge-number
+unfolding judge judge-number ruling
 returns-2 c =
     let at-if1 = c .before .before .before .before in
     let at-judge-asked = at-if1 .before in (
       simp (sym (at-judge-asked .judge-asked .ensures), eq-eqb _ _ (at-if1 .if1 .left), sym (c .before .is-unbounded .ensures), c .if2 .taken),
-      sym (at-if1 .if1 .left) ∙ at-judge-asked .judge-asked .ensures,
+      (
+        sym (at-if1 .if1 .left) ∙ at-judge-asked .judge-asked .ensures,
+        simp (sym (at-judge-asked .judge-asked .ensures), eq-eqb _ _ (at-if1 .if1 .left), sym (c .before .is-unbounded .ensures), c .if2 .taken),
+      ),
     )
 
 hash-of-requires : tie.Need-hash-of-requires
@@ -75,7 +81,7 @@ same-length-4 : tie.Need-same-length-4
 same-length-4 c = search needs
 
 returns-3 : tie.Need-returns-3
-unfolding judge judge-number
+unfolding judge judge-number ruling
 returns-3 c =
     let at-bounded = c .before .before .before .before .before in
     let at-if2 = at-bounded .before .before .before .before .before .before .before .before .before .before .before .before in
@@ -88,7 +94,15 @@ returns-3 c =
         sym (at-is-unbounded .is-unbounded .ensures),
         at-if2 .if2 .left,
       ) (at-bounded .bounded .ensures .0),
-      at-bounded .bounded .ensures .1 ∙ sym (at-if1 .if1 .left) ∙ at-judge-asked .judge-asked .ensures,
+      (
+        at-bounded .bounded .ensures .1 .0 ∙ sym (at-if1 .if1 .left) ∙ at-judge-asked .judge-asked .ensures,
+        simp (
+          sym (at-judge-asked .judge-asked .ensures),
+          eq-eqb _ _ (at-if1 .if1 .left),
+          sym (at-is-unbounded .is-unbounded .ensures),
+          at-if2 .if2 .left,
+        ) (at-bounded .bounded .ensures .1 .1),
+      ),
     )
 
 pub judge-spec : {M : Type 1} → statement M

@@ -10,8 +10,8 @@ unit-of-requires c κs = search needs
 judge-requires : tie.Need-judge-requires
 judge-requires c κs = search needs
 
-judge-code-requires : tie.Need-judge-code-requires
-judge-code-requires c κs = search needs
+decision-of-requires : tie.Need-decision-of-requires
+decision-of-requires c κs = search needs
 
 same-length : tie.Need-same-length
 same-length c = search needs
@@ -28,7 +28,8 @@ same-length-4 c = search needs
 returns : tie.Need-returns
 returns c =
     let at-judge = c .before .before .before .before .before .before .before in
-    judge-tells _ _ _ _ _ _ _ _ _ (memory _ _ _) _ (at-judge .judge .ensures .0) (at-judge .before .before .unit-of .ensures) (c .judge-code .ensures)
+    judge-tells _ _ _ _ _ _ _ _ _ (memory _ _ _) _ (at-judge .judge .ensures .0) (at-judge .judge .ensures .1 .1) (at-judge .before .before .unit-of .ensures)
+    (c .decision-of .ensures)
 
 pub tankpost-judge-spec : {M : Type 1} → statement M
 tankpost-judge-spec =
@@ -36,7 +37,7 @@ tankpost-judge-spec =
     (tie.spec
     unit-of-requires
     judge-requires
-    judge-code-requires
+    decision-of-requires
     same-length
     same-length-2
     same-length-3

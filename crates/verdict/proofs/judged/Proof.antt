@@ -1,4 +1,6 @@
 -- `verdict::judged` meets its contract. Assumes nothing.
+use Rattle.verdict.specs.Verdict.{weighed}
+use Rattle.verdict.specs.Rules.{rule-of, ruled}
 use Rattle.verdict.proofs.Verdicts.{judged-is}
 use borrow.Author.Needs.{needs}
 use Rattle.verdict.proofs.judged.Statement.{statement}
@@ -32,20 +34,24 @@ weighed-requires : tie.Need-weighed-requires
 weighed-requires c κs = search needs
 
 returns : tie.Need-returns
+unfolding ruled
 returns c =
-    let at-tried = c .before .before .before in
+    let at-want = c .before in
+    let at-tried = at-want .before .before in
     let at-fade-to = at-tried .before in
     let at-credited = at-fade-to .before in
     let at-weight-of = at-credited .before in
     let at-since = at-weight-of .before in
     let at-is-fresh = at-since .before in
     let at-refilled-all = at-is-fresh .before in
-    let x = at-refilled-all .before .args in
-    judged-is (x .buckets) (at-refilled-all .refilled-all .result) (x .used) (at-credited .credited .result) (at-fade-to .fade-to .result)
-    (at-tried .tried .result) (x .clock) (x .elapsed) (at-since .since .result) (x .cost) (x .fill) (x .level) (x .rank) (at-is-fresh .is-fresh .result)
-    (at-weight-of .weight-of .result) (c .before .want .result) (c .weighed .result) (c .weighed .ensures) (at-refilled-all .refilled-all .ensures)
-    (c .before .want .ensures) (at-tried .tried .ensures) (at-fade-to .fade-to .ensures) (at-credited .credited .ensures)
-    (at-weight-of .weight-of .ensures) (at-is-fresh .is-fresh .ensures) (at-since .since .ensures)
+    let x = at-refilled-all .before .args in (
+      judged-is (λ wants fs t. weighed wants (x .rank) fs t (x .cost)) (x .buckets) _ (x .used) _ _ _ (x .clock) (x .elapsed) _ (x .cost) (x .fill) (x .level) _ _ _ _
+          (c .weighed .ensures .0) (at-refilled-all .refilled-all .ensures) (at-want .want .ensures) (at-tried .tried .ensures) (at-fade-to .fade-to .ensures)
+          (at-credited .credited .ensures) (at-weight-of .weight-of .ensures) (at-is-fresh .is-fresh .ensures) (at-since .since .ensures),
+      judged-is (λ wants fs t. rule-of wants (x .rank) (t .credit) fs (x .cost)) (x .buckets) _ (x .used) _ _ _ (x .clock) (x .elapsed) _ (x .cost) (x .fill) (x .level) _ _ _ _
+          (c .weighed .ensures .1) (at-refilled-all .refilled-all .ensures) (at-want .want .ensures) (at-tried .tried .ensures) (at-fade-to .fade-to .ensures)
+          (at-credited .credited .ensures) (at-weight-of .weight-of .ensures) (at-is-fresh .is-fresh .ensures) (at-since .since .ensures),
+    )
 
 pub judged-spec : {M : Type 1} → statement M
 judged-spec =

@@ -4,43 +4,23 @@ use Rattle.verdict.proofs.Verdicts.{weighed-is}
 use Rattle.verdict.proofs.weighed.Statement.{statement}
 use Rattle.verdict.proofs.weighed.Tie as tie
 
-covers-requires : tie.Need-covers-requires
-covers-requires c κs = search needs
+rule-of-requires : tie.Need-rule-of-requires
+rule-of-requires c κs = search needs
 
-suffice-requires : tie.Need-suffice-requires
-suffice-requires c κs = search needs
-
-mark-of-requires : tie.Need-mark-of-requires
-mark-of-requires c κs = search needs
-
-leaves-requires : tie.Need-leaves-requires
-leaves-requires c κs = search needs
-
-decided-requires : tie.Need-decided-requires
-decided-requires c κs = search needs
+verdict-of-requires : tie.Need-verdict-of-requires
+verdict-of-requires c κs = search needs
 
 settled-requires : tie.Need-settled-requires
 settled-requires c κs = search needs
 
 returns : tie.Need-returns
 returns c =
-    let at-mark-of = c .before .before .before in
-    let at-suffice = at-mark-of .before in
-    let at-covers = at-suffice .before in
-    let x = at-covers .before .before .args in
-    weighed-is (x .wants) (x .rank) (at-mark-of .mark-of .result) (x .buckets) (x .used) (x .cost) (at-covers .covers .result)
-    (at-suffice .suffice .result) (c .before .before .leaves .result) (c .before .decided .result) (c .settled .result) (c .settled .ensures)
-    (c .before .decided .ensures) (c .before .before .leaves .ensures) (at-mark-of .mark-of .ensures) (at-suffice .suffice .ensures)
-    (at-covers .covers .ensures)
+    let at-rule-of = c .before .before in
+    let x = at-rule-of .before .before .args in (
+      weighed-is (x .wants) (x .rank) (x .buckets) (x .used) (x .cost) (at-rule-of .rule-of .result) (c .before .verdict-of .result)
+          (c .settled .result) (c .settled .ensures) (c .before .verdict-of .ensures) (at-rule-of .rule-of .ensures),
+      at-rule-of .rule-of .ensures,
+    )
 
 pub weighed-spec : {M : Type 1} → statement M
-weighed-spec =
-    tie.close
-    (tie.spec
-    covers-requires
-    suffice-requires
-    mark-of-requires
-    leaves-requires
-    decided-requires
-    settled-requires
-    returns)
+weighed-spec = tie.close (tie.spec rule-of-requires verdict-of-requires settled-requires returns)

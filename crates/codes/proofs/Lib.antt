@@ -1,0 +1,2 @@
+-- Decoded: nothing is lost in the numbers of a decision.
+pub mod Decoded
