@@ -1,5 +1,7 @@
 // Document 01's cases at the edges, run through the real functions: the cases that crate `check_cases` proves of the definitions, the
 // cases that are only run, and every refusal.
+#![tactic(auto)]
+
 mod calls;
 mod steps;
 

@@ -23,7 +23,7 @@ const IS_BOUNDED: u64 = 8;
 
 // The last R line; how many rows there are since, and whether a row more found no room; how many bytes of the line that is
 // being read are kept, and whether the input has ended.
-#[derive(Drop)]
+#[derive(Clone, Copy)]
 struct List {
     start: StartLine,
     rows: usize,

@@ -3,6 +3,8 @@
 // `to` as the run, and says the totals, whether the last call of the run was answered over share, the page that the reports
 // of the list left, and the report of the state left. tools/make_replay_list.py makes the lists and, with the Rust oracle,
 // what must be said.
+#![tactic(auto)]
+
 mod list;
 mod runs;
 

@@ -1,6 +1,8 @@
 // Compares the sender's hash with outside values: published FNV-1a vectors, and a list of units on standard input.
 // A line of the list has seven hexadecimal numbers: the unit's five words, its table, and its hash without the lowest
 // 11 bits.
+#![tactic(auto)]
+
 ghost use Rattle.std.specs.Prelude.{◌≡◌, ◌<◌};
 
 use libc::{STDIN_FILENO, STDOUT_FILENO};
@@ -11,7 +13,7 @@ const LINE_FEED: u8 = 10;
 const SPACE: u8 = 32;
 
 // How many were compared, how many agreed, and the number of the first that did not (0: none).
-#[derive(Drop)]
+#[derive(Clone, Copy)]
 struct Tally {
     seen: u64,
     agreed: u64,
@@ -52,13 +54,13 @@ impl Tally {
 }
 
 // The line so far: the numbers that it has, and which of them the next digit belongs to.
-#[derive(Drop)]
+#[derive(Clone, Copy)]
 struct Line {
     fields: [u64; 7],
     at: usize,
 }
 
-#[derive(Drop)]
+#[derive(Clone, Copy)]
 struct Reading {
     line: Line,
     tally: Tally,

@@ -1,5 +1,7 @@
 // What the program `check_edges` runs, without the calls over lent memory: the cases that crate `check_cases` proves of the definitions, the
 // table of the other steps, the comparison of head and memory, and what is written.
+#![tactic(auto)]
+
 mod lines;
 mod proved;
 mod readers;
@@ -30,7 +32,7 @@ pub const OUT: usize = 4096;
 
 // What came of a call: the number that it was refused by, or one of those below; the head after it; how many bytes of the
 // buffer an answer took; and whether all else is as before.
-#[derive(Drop)]
+#[derive(Clone, Copy)]
 pub struct Tried {
     pub number: u64,
     pub head: Shedder,

@@ -1,6 +1,8 @@
 // Replays the list on standard input, which tools/make_wants_list.py makes with the Rust oracle, and says how many buckets and levels agree, or which line is the first that does not.
 // A line is a letter and decimal numbers, a double as its bit pattern:
 // B want bucket · C (clear) · A dim want (add) · S dim bucket count sum (set) · L dim rate level
+#![tactic(auto)]
+
 ghost use Rattle.std.specs.Prelude.{◌<◌};
 
 use flow::DIMS;
@@ -16,7 +18,7 @@ const NAN: u64 = 9221120237041090560;
 const ROOM: u64 = 1844674407370955160;
 
 // The line so far, and what the lines before it came to. `differs` is the number of the first line that does not agree, 0 while all do.
-#[derive(Drop)]
+#[derive(Clone, Copy)]
 struct Replay {
     letter: u8,
     at: usize,

@@ -1,4 +1,6 @@
 // Answers, causes and dimensions as numbers.
+#![tactic(auto)]
+
 mod answers;
 mod decisions;
 mod given;
@@ -14,7 +16,7 @@ pub use reads::{read_bounded, read_count, read_level, read_rate, read_written};
 
 // A number read: the refusal's number, 0 where there was none; and the value, 0 on a refusal.
 #[repr(C)]
-#[derive(Drop)]
+#[derive(Clone, Copy)]
 pub struct Count {
     pub refusal: u64,
     pub value: u64,
@@ -22,7 +24,7 @@ pub struct Count {
 
 // A level read, in the same way.
 #[repr(C)]
-#[derive(Drop)]
+#[derive(Clone, Copy)]
 pub struct Level {
     pub refusal: u64,
     pub value: f64,
@@ -32,7 +34,7 @@ pub struct Level {
 // lacked; the want of an admitted batch or the mark of the reserve; and the part of the burst that would have been left.
 // A number that the rule does not have is DIM_NONE or 0.0.
 #[repr(C)]
-#[derive(Drop)]
+#[derive(Clone, Copy)]
 pub struct Decision {
     pub refusal: u64,
     pub verdict: u64,

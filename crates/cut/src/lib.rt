@@ -1,4 +1,6 @@
 // A cut made elsewhere: the head by value, the records lent.
+#![tactic(auto)]
+
 ghost use Rattle.std.specs.Prelude.{◌≡◌, ◌<◌, ◌≤◌, ◌+◌, length};
 ghost use Rattle.sender.specs.Sender as sender;
 ghost use Rattle.store.specs.Store as store;
@@ -14,7 +16,7 @@ use sender::{Name, Unit};
 use store::{SourceRow, UnitRow, UseRow};
 
 // What a cut answers, and the head after it.
-#[derive(Drop)]
+#[derive(Clone, Copy)]
 pub struct Cutting {
     pub answer: Done,
     pub head: Shedder,

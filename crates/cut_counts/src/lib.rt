@@ -1,4 +1,6 @@
 // The counts of cuts: by cause in the head, by source in lent rows. Behind the tags of the unit records stand those of the sources.
+#![tactic(auto)]
+
 ghost use Rattle.std.specs.Prelude.{◌≡◌, ◌+◌, ◌<◌, length};
 ghost use Rattle.store.specs.Store as store;
 ghost use Rattle.cut_counts.specs.Counting as counting;

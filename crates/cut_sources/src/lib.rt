@@ -1,4 +1,6 @@
 // Rows of counted sources: how often each sender was cut, for each cause.
+#![tactic(auto)]
+
 ghost use Rattle.std.specs.Prelude.{◌≡◌, ◌+◌, ◌<◌, ◌≤◌, length};
 ghost use Rattle.store.specs.Store as store;
 ghost use Rattle.cut_sources.specs.Counted as counts;

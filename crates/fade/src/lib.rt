@@ -1,4 +1,6 @@
 // The fade: exp(-d / WINDOW_MS) after d milliseconds, as the rounded product of two entries, one of each table. From the end of the tables on it is 0.
+#![tactic(auto)]
+
 ghost use Rattle.std.specs.Prelude.{◌≡◌, ◌<◌};
 ghost use Rattle.fade.specs.Fade as spec;
 

@@ -1,4 +1,6 @@
 // A list of calls, given as rows of words, run through the real calls, and the totals of a run in it: demand 3's claims hold of them.
+#![tactic(auto)]
+
 ghost use Rattle.std.specs.Prelude.{◌≡◌, min};
 ghost use Rattle.fair_row.specs.Replay as replay;
 ghost use Rattle.fair_replay.specs.Runs as runs;
@@ -24,7 +26,7 @@ fn sums(xs: [u64; DIMS], ys: [u64; DIMS]) -> [u64; DIMS]
 }
 
 // What a list left, and the totals over the calls of the run, modulo 2^64.
-#[derive(Drop)]
+#[derive(Clone, Copy)]
 pub struct Replayed {
     pub head: Shedder,
     pub admitted: [u64; DIMS],

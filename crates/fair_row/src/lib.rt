@@ -1,4 +1,6 @@
 // A row of words as a call, run through the real calls: what it leaves, and what it amounts to.
+#![tactic(auto)]
+
 mod own;
 mod read;
 mod rows;
@@ -53,7 +55,7 @@ fn counted_if(on: bool, cost: [u64; DIMS]) -> [u64; DIMS]
 }
 
 // What a call leaves, the number of its refusal (0 for none), what it admits, what of that on the watched record, what it hands back, and whether it is a judgement answered over share.
-#[derive(Drop)]
+#[derive(Clone, Copy)]
 pub struct Turned {
     pub head: Shedder,
     pub number: u64,

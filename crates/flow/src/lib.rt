@@ -1,4 +1,6 @@
 // The float core of a judgement, by value: the token bucket and a unit's use. The want and the decision are in `verdict`. No store is known here.
+#![tactic(auto)]
+
 ghost use Rattle.std.specs.Prelude.{◌≡◌, ◌-◌, min, max};
 ghost use Rattle.ieee.specs.Doubles.{whole};
 ghost use Rattle.flow.specs.Flow as flow;
@@ -9,7 +11,7 @@ pub use fade::WINDOW_MS;
 pub const DIMS: usize = 2;
 
 // A dimension of a rate, a cost or a level.
-#[derive(Drop)]
+#[derive(Clone, Copy)]
 pub enum Dim {
     Receptions,
     Bytes,
@@ -30,7 +32,7 @@ const UNBOUNDED_RATE: f64 = 18446744073709551616.0;
 pub const RATE_MOST: u64 = 1 << 40;
 
 #[repr(C)]
-#[derive(Drop)]
+#[derive(Clone, Copy)]
 pub struct Bucket {
     pub tokens: f64,
     pub burst: f64,
@@ -40,7 +42,7 @@ pub struct Bucket {
 // What a unit attempted (a sum that fades) and what it may still be admitted, as of `at_ms`. `fresh`: nothing of it was judged
 // yet; any word but 0, so that every word is one that memory or C may hold.
 #[repr(C)]
-#[derive(Drop)]
+#[derive(Clone, Copy)]
 pub struct Use {
     pub attempted: [f64; DIMS],
     pub credit: [f64; DIMS],

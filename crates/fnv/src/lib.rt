@@ -1,4 +1,6 @@
 // FNV-1a with 64 bits, as RFC 9923 has it.
+#![tactic(auto)]
+
 ghost use Rattle.std.specs.Prelude.{◌≡◌, ◌*◌, ◌%◌, ◌^◌};
 ghost use Rattle.fnv.specs.Fnv as spec;
 

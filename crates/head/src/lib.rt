@@ -1,4 +1,6 @@
 // The head of the Shedder: document 01's questions about it, and the start.
+#![tactic(auto)]
+
 ghost use Rattle.std.specs.Prelude.{◌≡◌, ◌&&◌, ◌||◌, ◌<◌, length};
 ghost use Rattle.store.specs.Store as store;
 ghost use Rattle.wants.specs.Wants as wants;
@@ -34,7 +36,7 @@ pub const LEVEL_MOST: f64 = 1000000000000000.0;
 
 // The token buckets, which every judgement takes from in the order stamps come.
 #[repr(C)]
-#[derive(Drop)]
+#[derive(Clone, Copy)]
 pub struct Flow {
     pub rate: [u64; DIMS],
     // told to feeders, reported only; a burst is at least so large
@@ -48,7 +50,7 @@ pub struct Flow {
 
 // The scan that finds the level again, a few tables at a time.
 #[repr(C)]
-#[derive(Drop)]
+#[derive(Clone, Copy)]
 pub struct Scan {
     // tables still to visit, none between scans; and the next one
     pub remaining: usize,
@@ -65,7 +67,7 @@ pub struct Scan {
 
 // The head: all of the shedder that is not lent memory. A capacity is that of the memory lent at the start.
 #[repr(C)]
-#[derive(Drop)]
+#[derive(Clone, Copy)]
 pub struct Shedder {
     pub flow: Flow,
     pub overflow: Use,
@@ -84,7 +86,7 @@ pub struct Shedder {
 }
 
 // Why a batch was cut.
-#[derive(Drop)]
+#[derive(Clone, Copy)]
 pub enum Cause {
     ReceiverCeiling,
     OverShare,
@@ -92,7 +94,7 @@ pub enum Cause {
 }
 
 // A refusal carries the number of the question that was answered no.
-#[derive(Drop)]
+#[derive(Clone, Copy)]
 pub enum Answer {
     Admitted,
     OverShare,
@@ -101,50 +103,50 @@ pub enum Answer {
 }
 
 // The rule that decided a judgement; one that was refused has none.
-#[derive(Drop)]
+#[derive(Clone, Copy)]
 pub enum Ruling {
     Refused,
     Ruled(Rule),
 }
 
-#[derive(Drop)]
+#[derive(Clone, Copy)]
 pub enum Done {
     Counted,
     Refused(u64),
 }
 
-#[derive(Drop)]
+#[derive(Clone, Copy)]
 pub enum Begin {
     Started,
     Refused(u64),
 }
 
-#[derive(Drop)]
+#[derive(Clone, Copy)]
 pub struct Starting {
     pub answer: Begin,
     pub head: Shedder,
 }
 
-#[derive(Drop)]
+#[derive(Clone, Copy)]
 pub enum Reading {
     Whole(u64),
     Refused(u64),
 }
 
-#[derive(Drop)]
+#[derive(Clone, Copy)]
 pub enum LevelRead {
     Level(f64),
     Refused(u64),
 }
 
-#[derive(Drop)]
+#[derive(Clone, Copy)]
 pub enum RateRead {
     Unbounded,
     PerSecond(u64),
     Refused(u64),
 }
 
-#[derive(Drop)]
+#[derive(Clone, Copy)]
 pub enum BoundedRead {
     Bounded,
     Unbounded,
@@ -152,7 +154,7 @@ pub enum BoundedRead {
 }
 
 // Of a report: how many bytes were written.
-#[derive(Drop)]
+#[derive(Clone, Copy)]
 pub enum Written {
     Bytes(usize),
     Refused(u64),

@@ -1,4 +1,6 @@
 // The readings of a head, each through question 3: the tables visited, the batches cut for a cause, a level, a rate, whether the relay is bounded.
+#![tactic(auto)]
+
 ghost use Rattle.flow.specs.Flow.{dims, dim_of};
 ghost use Rattle.std.specs.Prelude.{◌≡◌, ◌<◌};
 ghost use Rattle.head.specs.Questions as asked;

@@ -1,4 +1,6 @@
 // Rust's `min`, `max` and `clamp` of doubles. `specs/` and `proofs/` have the laws of binary64 arithmetic that crates above cite.
+#![tactic(auto)]
+
 ghost use Rattle.std.specs.Prelude.{◌≡◌};
 ghost use Rattle.ieee.specs.Extremes.{least, most, clamped};
 

@@ -1,4 +1,6 @@
 // A judgement: the head by value, the records lent.
+#![tactic(auto)]
+
 ghost use Rattle.std.specs.Prelude.{◌≡◌, ◌≤◌, length};
 ghost use Rattle.sender.specs.Sender as sender;
 ghost use Rattle.store.specs.Store as store;
@@ -16,7 +18,7 @@ use verdict::{Outcome, Rule, Ruled, Verdict};
 use wants::{Counts, Sums};
 
 // What a judgement answers, the rule that decided it, and the head after it.
-#[derive(Drop)]
+#[derive(Clone, Copy)]
 pub struct Judgement {
     pub answer: Answer,
     pub ruling: Ruling,
@@ -98,7 +100,7 @@ fn flowed(f: Flow, o: Outcome, cost: [f64; DIMS], clock: u64) -> Flow
 }
 
 // A verdict, its rule, and the head after it.
-#[derive(Drop)]
+#[derive(Clone, Copy)]
 pub struct Passed {
     pub verdict: Verdict,
     pub rule: Rule,

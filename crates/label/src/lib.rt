@@ -1,4 +1,6 @@
 // The label of a unit: the text that names it in a report and in a line of the trial.
+#![tactic(auto)]
+
 ghost use Rattle.std.specs.Prelude.{◌≡◌, length, take};
 ghost use Rattle.io.specs.Counts.{IsPrefixLen};
 ghost use Rattle.text.specs.Page.{page, placed, write};

@@ -1,4 +1,6 @@
 // A label read back: the unit whose label a text is.
+#![tactic(auto)]
+
 ghost use Rattle.std.specs.Prelude.{◌≡◌, ◌+◌, ◌≤◌, ◌<◌, ◌^◌, get_or};
 ghost use Rattle.label_parse.specs.Parse as parsing;
 
@@ -6,13 +8,13 @@ use label::{LABEL_MOST, label_text};
 use sender::{Group, PublicKey, Unit};
 
 // A number read from a text, and the place behind it.
-#[derive(Drop)]
+#[derive(Clone, Copy)]
 pub struct Field {
     pub value: u64,
     pub at: usize,
 }
 
-#[derive(Drop)]
+#[derive(Clone, Copy)]
 pub enum Parsed {
     Unit(Unit),
     Nothing,

@@ -1,4 +1,6 @@
 // The report: the Shedder's counts as text in a lent buffer.
+#![tactic(auto)]
+
 ghost use Rattle.std.specs.Prelude.{◌≡◌, length, take};
 ghost use Rattle.io.specs.Counts.{IsPrefixLen};
 ghost use Rattle.head.specs.Answers as answers;

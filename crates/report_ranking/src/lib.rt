@@ -1,4 +1,6 @@
 // Which sources a report names, and in which order.
+#![tactic(auto)]
+
 ghost use Rattle.std.specs.Prelude.{◌≡◌, ℕ, ◌<◌, ◌≤◌, List, ◌++◌, length};
 ghost use Rattle.text.specs.Number.{word};
 ghost use Rattle.text.specs.Order.{less};

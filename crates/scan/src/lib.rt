@@ -1,4 +1,6 @@
 // The scan that finds the level again, two tables with each judgement.
+#![tactic(auto)]
+
 ghost use Rattle.flow.specs.Flow.{dims};
 ghost use Rattle.std.specs.Prelude.{◌≡◌, ◌+◌, ◌<◌, ◌≤◌, true, length};
 ghost use Rattle.sender.specs.Sender as sender;

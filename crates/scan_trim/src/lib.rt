@@ -1,4 +1,6 @@
 // The level at the end of a scan: what the wants leave, and the trim by which it follows the rate admitted.
+#![tactic(auto)]
+
 ghost use Rattle.std.specs.Prelude.{◌≡◌};
 ghost use Rattle.wants.specs.Wants as wants;
 ghost use Rattle.scan_trim.specs.Trimming as trimming;

@@ -1,4 +1,6 @@
 // A sender: the unit that a batch is judged under, its hash, rank and table, and its words in memory.
+#![tactic(auto)]
+
 ghost use Rattle.std.specs.Prelude.{◌≡◌};
 ghost use Rattle.sender.specs.Sender as sender;
 
@@ -12,7 +14,7 @@ pub use hash::{hash_of, rank, rank_of_hash, table_of, table_of_tag, tag_of_hash}
 pub use memory::{is_overflow, name_by_hash, name_of, same_unit, unit_of, words_of};
 
 // 32 bytes, the most significant byte of `a` first and the least significant of `d` last.
-#[derive(Drop)]
+#[derive(Clone, Copy)]
 pub struct PublicKey {
     pub a: u64,
     pub b: u64,
@@ -21,13 +23,13 @@ pub struct PublicKey {
 }
 
 // A network group: the first 16 bits of an IPv4 address, or the first 32 of an IPv6 address.
-#[derive(Drop)]
+#[derive(Clone, Copy)]
 pub enum Group {
     V4(u16),
     V6(u32),
 }
 
-#[derive(Drop)]
+#[derive(Clone, Copy)]
 pub enum Unit {
     Corroborated(PublicKey),
     Group(Group),
@@ -37,7 +39,7 @@ pub enum Unit {
 
 // A unit as words of memory: its kind, and a key's four words or a group's prefix in `a`.
 #[repr(C)]
-#[derive(Drop)]
+#[derive(Clone, Copy)]
 pub struct Words {
     pub kind: u64,
     pub a: u64,
@@ -47,7 +49,7 @@ pub struct Words {
 }
 
 // What a record keeps of its unit: the tag, which a search reads first, and the words.
-#[derive(Drop)]
+#[derive(Clone, Copy)]
 pub struct Name {
     pub tag: u16,
     pub words: Words,

@@ -13,7 +13,7 @@ const FULL: usize = 61336;
 
 // The trial, how many bytes of the line that is being read are kept, whether nothing more is read, and whether input or
 // output failed, so that nothing more is written either.
-#[derive(Drop)]
+#[derive(Clone, Copy)]
 struct Served {
     trial: Trial,
     len: usize,

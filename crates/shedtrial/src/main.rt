@@ -1,4 +1,6 @@
 // The trial program: lines of the trial's language on standard input, their answers on standard output.
+#![tactic(auto)]
+
 mod lines;
 
 fn main() {

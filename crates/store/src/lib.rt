@@ -1,4 +1,6 @@
 // Rows of lent memory: a unit's record.
+#![tactic(auto)]
+
 ghost use Rattle.std.specs.Prelude.{◌≡◌, ◌<◌, length};
 ghost use Rattle.store.specs.Store as store;
 

@@ -1,4 +1,6 @@
 // The record that a call uses: found, added, or overflow's; read and put back.
+#![tactic(auto)]
+
 ghost use Rattle.std.specs.Prelude.{◌≡◌, ◌≤◌, length};
 ghost use Rattle.sender.specs.Sender as sender;
 ghost use Rattle.store.specs.Store as store;
@@ -9,7 +11,7 @@ use sender::{Name, Unit};
 use store::{UnitRow, UseRow};
 
 // Where a unit's record is, room for overflow's; and how many there are then.
-#[derive(Drop)]
+#[derive(Clone, Copy)]
 pub struct Place {
     pub at: usize,
     pub tracked: usize,

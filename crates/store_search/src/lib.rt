@@ -1,4 +1,6 @@
 // Searches over the records: the record of a unit, and the next record of a table.
+#![tactic(auto)]
+
 ghost use Rattle.std.specs.Prelude.{◌≡◌, true, false, ◌<◌, ◌≤◌, ◌+◌, length};
 ghost use Rattle.store.specs.Store as store;
 

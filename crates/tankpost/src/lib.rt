@@ -1,6 +1,8 @@
 // The calls for relays in Rust or C. `rt staticlib tankpost` makes the archive that they link.
 // The head goes in and comes back by value; all other memory is lent. In C a slice is a pointer and a count, a reference to
 // an array is a pointer. Any bits may stand in head and memory. Each contract cites the page of crate meaning.
+#![tactic(auto)]
+
 ghost use Rattle.std.specs.Prelude.{◌≡◌};
 ghost use Rattle.sender.specs.Sender.{unit_of};
 ghost use Rattle.wants.specs.Wants.{Hist};
@@ -21,7 +23,7 @@ use wants::{Counts, Sums};
 
 // A call's answer as a number (crate codes), and the head after it.
 #[repr(C)]
-#[derive(Drop)]
+#[derive(Clone, Copy)]
 pub struct Answered {
     pub answer: u64,
     pub head: Shedder,
@@ -29,7 +31,7 @@ pub struct Answered {
 
 // What a judgement answered, as numbers (crate codes), and the head after it.
 #[repr(C)]
-#[derive(Drop)]
+#[derive(Clone, Copy)]
 pub struct Judged {
     pub decision: Decision,
     pub head: Shedder,

@@ -2,6 +2,8 @@
 //
 // Each `put` answers the place behind what it wrote. A text that does not fit from the place on is
 // not written at all: the buffer keeps its bytes, and the answer is the place as it was given.
+#![tactic(auto)]
+
 mod order;
 
 ghost use Rattle.std.specs.Prelude.{◌≡◌, [], ◌∷◌, length};

@@ -1,4 +1,6 @@
 // The trial: one line answered by the shedder, over the memory that it is lent, and the text of the answer put into a page.
+#![tactic(auto)]
+
 ghost use Rattle.std.specs.Prelude.{◌≡◌, true, false};
 ghost use Rattle.store.specs.Store.{rows};
 ghost use Rattle.wants.specs.Wants.{Hist, hist};
@@ -25,7 +27,7 @@ pub const REPORT: usize = 4096;
 const NO_FORM: u64 = 8;
 
 // The shedder and whether it was started; `at` is the place behind the last answer.
-#[derive(Drop)]
+#[derive(Clone, Copy)]
 pub struct Trial {
     pub head: Shedder,
     pub is_started: bool,

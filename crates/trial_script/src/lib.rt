@@ -1,4 +1,6 @@
 // The trial's language: a line of it to a call, and an answer to text.
+#![tactic(auto)]
+
 mod answers;
 mod fields;
 mod lines;
@@ -16,26 +18,26 @@ use sender::Unit;
 pub const LINE_MOST: usize = 200;
 
 // A number for each dimension.
-#[derive(Drop)]
+#[derive(Clone, Copy)]
 pub struct Amounts {
     pub receptions: u64,
     pub bytes: u64,
 }
 
-#[derive(Drop)]
+#[derive(Clone, Copy)]
 pub struct StartLine {
     pub rate: Amounts,
     pub ceiling: Amounts,
 }
 
-#[derive(Drop)]
+#[derive(Clone, Copy)]
 pub struct JudgeLine {
     pub unit: Unit,
     pub cost: Amounts,
     pub stamp: u64,
 }
 
-#[derive(Drop)]
+#[derive(Clone, Copy)]
 pub struct CutLine {
     pub unit: Unit,
     pub cause: Cause,
@@ -43,7 +45,7 @@ pub struct CutLine {
 }
 
 // The call that a line is; Nothing where it has no form.
-#[derive(Drop)]
+#[derive(Clone, Copy)]
 pub enum Line {
     Start(StartLine),
     Judge(JudgeLine),

@@ -1,4 +1,6 @@
 // What decides: a unit's want, the rule, the verdict, and a judgement on one record. Floats by value; no store is known here.
+#![tactic(auto)]
+
 ghost use Rattle.std.specs.Prelude.{◌≡◌};
 ghost use Rattle.verdict.specs.Verdict as verdicts;
 ghost use Rattle.verdict.specs.Rules as rules;
@@ -16,7 +18,7 @@ pub const RESERVE: f64 = 0.1;
 // How far a rank raises the mark: it parts sources of equal want.
 pub const RANK_WEIGHT: f64 = 0.000001;
 
-#[derive(Drop)]
+#[derive(Clone, Copy)]
 pub enum Verdict {
     Admitted,
     OverShare,
@@ -24,14 +26,14 @@ pub enum Verdict {
 }
 
 // Where the want lies: within the level or over it.
-#[derive(Drop)]
+#[derive(Clone, Copy)]
 pub enum Side {
     Within,
     Over,
 }
 
 // The rule that decided a batch: the first that lacked, and in which dimension.
-#[derive(Drop)]
+#[derive(Clone, Copy)]
 pub enum Rule {
     // none lacked; the want
     Admitted(f64),
@@ -75,7 +77,7 @@ pub fn want(weight: f64, attempted: [f64; DIMS], cost: [f64; DIMS], level: [f64;
 
 // ---- a judgement on a record that was found or added
 
-#[derive(Drop)]
+#[derive(Clone, Copy)]
 pub struct Outcome {
     pub verdict: Verdict,
     pub buckets: [Bucket; DIMS],
@@ -112,7 +114,7 @@ fn settled(verdict: Verdict, buckets: [Bucket; DIMS], used: Use, cost: [f64; DIM
 }
 
 // An outcome, and the rule that decided it.
-#[derive(Drop)]
+#[derive(Clone, Copy)]
 pub struct Ruled {
     pub rule: Rule,
     pub outcome: Outcome,

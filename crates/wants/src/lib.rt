@@ -1,4 +1,6 @@
 // The histogram of wants, per dimension, and the level found from it.
+#![tactic(auto)]
+
 ghost use Rattle.flow.specs.Flow.{dims};
 ghost use Rattle.std.specs.Prelude.{◌≡◌, ◌<◌, [], slice_index_or};
 ghost use Rattle.ieee.specs.Doubles.{whole, infinity};

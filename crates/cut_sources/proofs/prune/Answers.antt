@@ -1,0 +1,34 @@
+-- `cut_sources::prune` meets its contract. Assumes nothing.
+use Rattle.std.proofs.Common.{◌≡◌, sym, refl, ap, ◌∙◌, arith, rules}
+use Rattle.cut_sources.specs.Counted.{Sources, prune_one}
+use Rattle.cut_sources.proofs.Pruning.{prune_none, prune_next}
+use Rattle.cut_sources.proofs.Tagged.{prune_tags_none, step_tags}
+use Rattle.cut_sources.proofs.prune.Goals as goal
+
+pub loop-i-init : goal.loop-i-init
+loop-i-init c = (search rules, search rules, search rules, refl, sym (prune_none _ _), search rules, refl, sym (prune_tags_none _ _ _))
+
+pub loop-i-preserved : goal.loop-i-preserved
+loop-i-preserved c = (
+  search rules,
+  search rules,
+  omega (arith, c.prune_one-j.auto.1.0),
+  c.prune_one-j.auto.1.0 ∙ c.loop-i.invariant.3,
+  c.prune_one-j.ensures.counted_after ∙ ap (λ (s : Sources). prune_one s c.args.k c.loop-i.i) c.loop-i.invariant.4
+      ∙ sym (prune_next _ _ _ (omega (arith, c.loop-i.invariant.3))),
+  omega (arith, c.prune_one-j.auto.0),
+  c.prune_one-j.auto.0 ∙ c.loop-i.invariant.6,
+  step_tags _ _ _ _ _ _ _ _ c.loop-i.invariant.4 c.loop-i.invariant.7 c.prune_one-j.ensures.tags_after,
+)
+
+pub shape_of-tags : goal.shape_of-tags
+shape_of-tags c = c.loop-i.invariant.6
+
+pub shape_of-counted : goal.shape_of-counted
+shape_of-counted c = c.loop-i.invariant.3
+
+pub returns-clause-counted_after : goal.returns-clause-counted_after
+returns-clause-counted_after c = let e : c.loop-i.i ≡ c.args.n = omega arith in rw e at c.loop-i.invariant.4
+
+pub returns-clause-tags_after : goal.returns-clause-tags_after
+returns-clause-tags_after c = let e : c.loop-i.i ≡ c.args.n = omega arith in rw e at c.loop-i.invariant.7

@@ -1,0 +1,21 @@
+-- `put_report` meets its contract: the part that `report` returned is put into the buffer, or `write_report` has written it. Assumes nothing.
+use mathlib.Core.Path.{sym, ap, ◌∙◌}
+use Rattle.report.specs.Report as reports
+use Rattle.fair_row.proofs.Reading.{front_length, part_put}
+use Rattle.fair_row.proofs.read.put_report.Goals as goal
+
+pub slice_bounds-report-end : goal.slice_bounds-report-end
+slice_bounds-report-end c =
+    front_length _ _ c.if-room-le-PAGE.true
+
+pub returns-then-room-le-PAGE : goal.returns-then-room-le-PAGE
+returns-then-room-le-PAGE c = record {
+  value = (λ g. c.report_refusal-number.ensures);
+  out_after = (λ g. part_put _ _ _ _ _ _ _ _ _ _ (sym (front_length _ _ c.if-room-le-PAGE.true)) c.report-part.ensures c.put.ensures);
+}
+
+pub returns : goal.returns
+returns c = record {
+  value = (λ g. c.report_number.ensures ∙ c.write_report-written.ensures.result_value);
+  out_after = (λ g. ap (λ (y : reports.Ends). y.out) c.write_report-written.ensures.out_after);
+}

@@ -1,0 +1,11 @@
+-- `flow::Use::tried` meets its contract. The loop's invariant: the parts below d are the definition's. Assumes nothing.
+use Rattle.std.proofs.Common.{◌≡◌, ℕ, ◌-◌, ◌≤◌}
+use lib.Ieee.{binary64, add}
+use Rattle.flow.specs.Flow.{dims, at, upto, trying}
+use Rattle.flow.proofs.Use.tried.Given as goal
+
+abbrev pub invariant-loop-d : goal.invariant-loop-d
+invariant-loop-d l = (l.d ≤ dims) × (l.self ≡ trying l.initial.self (upto (λ (i : ℕ). add binary64 (at l.sums i) (at l.cost i)) l.d l.sums))
+
+abbrev pub decreases-loop-d : goal.decreases-loop-d
+decreases-loop-d l = dims - l.d

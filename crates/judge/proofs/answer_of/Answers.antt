@@ -1,0 +1,16 @@
+use Rattle.judge.specs.Judging.{answer_of}
+use Rattle.head.specs.Answers.{judge_number}
+use mathlib.Core.Path.{refl}
+use Rattle.judge.proofs.answer_of.Goals as goal
+
+pub returns-in-Admitted-clause-result_value : goal.returns-in-Admitted-clause-result_value
+unfolding answer_of judge_number
+returns-in-Admitted-clause-result_value c = refl
+
+pub returns-in-OverShare-clause-result_value : goal.returns-in-OverShare-clause-result_value
+unfolding answer_of judge_number
+returns-in-OverShare-clause-result_value c = refl
+
+pub returns-in-RelayRate-clause-result_value : goal.returns-in-RelayRate-clause-result_value
+unfolding answer_of judge_number
+returns-in-RelayRate-clause-result_value c = refl

@@ -1,0 +1,35 @@
+-- `report_ranking::first_after` meets its contract: the loop holds the earliest of those passed. Assumes nothing.
+-- one more source looked at
+use Rattle.report_ranking.specs.Sources.{first_after, better}
+use native.Mathlib.Omega.{arith}
+use Prim.Native.Nat.{ℕ, ◌+◌}
+use native.Mathlib.Numerals.{add-one}
+use mathlib.Core.List.{List}
+use borrow.Author.Rules.{rules}
+use mathlib.Core.Path.{◌≡◌, refl, sym, ap, ◌∙◌}
+use Rattle.report_ranking.proofs.first_after.Goals as goal
+
+first-none : (rows : List (List ℕ)) (n p : ℕ) → first_after rows n p 0 ≡ n
+unfolding first_after
+first-none rows n p = refl
+
+first_next : (rows : List (List ℕ)) (n p m : ℕ) → first_after rows n p (m + 1) ≡ better rows n p (first_after rows n p m) m
+unfolding first_after
+first_next rows n p m = rw add-one
+
+pub loop-i-init : goal.loop-i-init
+loop-i-init c = (search rules, search rules, search rules, search rules, sym (first-none _ _ _))
+
+pub loop-i-preserved : goal.loop-i-preserved
+loop-i-preserved c = (
+  search rules,
+  search rules,
+  search rules,
+  c.better-best.ensures.upper_bound,
+  c.better-best.ensures.value
+      ∙ ap (λ (b : ℕ). better c.args.counted.now c.args.n c.args.p b c.loop-i.i)
+      c.loop-i.invariant.4 ∙ sym (first_next _ _ _ _),
+)
+
+pub returns-clause-value : goal.returns-clause-value
+returns-clause-value c = let e : c.loop-i.i ≡ c.args.n = omega arith in c.loop-i.invariant.4 ∙ ap (first_after c.args.counted.now c.args.n c.args.p) e

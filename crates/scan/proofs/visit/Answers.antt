@@ -1,0 +1,14 @@
+use Rattle.scan.proofs.Scanning.{visit_is, moved_on}
+use Rattle.head.proofs.Bounds.{le_by}
+use Rattle.scan.specs.Scanning.{visited}
+use Rattle.head.specs.declared.Shedder.{Shedder}
+use Rattle.std.proofs.Common.{◌+◌, refl, ap}
+use Rattle.scan.proofs.visit.Goals as goal
+
+pub returns : goal.returns
+unfolding visited
+returns c = record {
+  sums_after = visit_is c.args.h _ _ c.swept-n.result _ _ _ c.visited.result c.swept-n.ensures.uses_after refl c.swept-n.ensures.sums_after c.visited.ensures;
+  tracked_le_tracked = le_by (ap (λ (h : Shedder). h.tracked) c.visited.ensures) c.swept-n.ensures.upper_bound;
+  next_bound_2 = le_by (ap (λ (h : Shedder). h.scan.remaining + h.scan.next) c.visited.ensures) (moved_on c.args.h.scan.remaining c.args.h.scan.next c.requires.le_remaining c.requires.next_bound);
+}

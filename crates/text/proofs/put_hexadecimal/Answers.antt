@@ -1,0 +1,11 @@
+-- `text::put_hexadecimal` meets its contract: the digits that the library makes are the numeral.
+use mathlib.Core.Path.{ap, ◌∙◌}
+use Rattle.text.specs.Page.{page, write}
+use Rattle.text.proofs.Numbers.{fewest_hexadecimal}
+use Rattle.text.proofs.put_hexadecimal.Goals as goal
+
+pub returns : goal.returns
+returns c =
+    let d = c.hex-k in
+    c.put.ensures
+    ∙ ap (write (page c.args.out.now c.args.at)) (d.ensures.1.1 ∙ fewest_hexadecimal d.result c.args.n d.ensures.1.0 c.ranges.n.fits)

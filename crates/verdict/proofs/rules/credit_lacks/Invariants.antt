@@ -1,0 +1,13 @@
+-- `verdict::rules::credit_lacks` meets its contract. The loop's invariant: no dimension below d lacks. Assumes nothing.
+use Rattle.flow.specs.Flow.{dims, at}
+use Rattle.verdict.specs.Verdict.{credit_holds}
+use Rattle.verdict.specs.Rules.{lacking}
+use Prim.Native.Nat.{ℕ, ◌≤◌, ◌-◌}
+use mathlib.Core.Path.{◌≡◌}
+use Rattle.verdict.proofs.rules.credit_lacks.Given as goal
+
+abbrev pub invariant-loop-d : goal.invariant-loop-d
+invariant-loop-d l = (l.d ≤ dims) × (lacking (λ (i : ℕ). credit_holds (at l.credit i) (at l.cost i)) l.d ≡ l.d)
+
+abbrev pub decreases-loop-d : goal.decreases-loop-d
+decreases-loop-d l = dims - l.d
