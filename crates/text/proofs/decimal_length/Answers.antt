@@ -7,4 +7,4 @@ use Rattle.text.proofs.decimal_length.Goals as goal
 pub returns : goal.returns
 returns c =
     let d = c.decimal in
-    sym (length_digits 10 d.result c.args.n) ∙ ap length (fewest_decimal d.result c.args.n d.ensures.1.0 c.ranges.n.fits)
+    sym (length_digits 10 d.result c.args.n) ∙ ap length (fewest_decimal d.result c.args.n d.ensures.len c.ranges.n.fits)

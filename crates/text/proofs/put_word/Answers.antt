@@ -8,4 +8,4 @@ pub returns : goal.returns
 returns c =
     let d = c.hex-k in
     c.put.ensures
-    ∙ ap (write (page c.args.out.now c.args.at)) (d.ensures.1.1 ∙ fewest_word d.result c.args.n d.ensures.1.0 c.ranges.n.fits)
+    ∙ ap (write (page c.args.out.now c.args.at)) (d.ensures.digits ∙ fewest_word d.result c.args.n d.ensures.len c.ranges.n.fits)
