@@ -800,4 +800,4 @@ returns-in-198 c = row 198 c.args.i c.requires c.in-198.is
 
 pub returns-in_default : goal.returns-in_default
 unfolding rows
-returns-in_default c = last c.args.i c.requires c.in_default-own.rest
+returns-in_default c = last c.args.i c.requires c.in_default.in_default-own.rest

@@ -64,4 +64,4 @@ returns-in-14 c = row 14 c.args.i c.requires c.in-14.is
 
 pub returns-in_default : goal.returns-in_default
 unfolding rows
-returns-in_default c = last c.args.i c.requires c.in_default-own.rest
+returns-in_default c = last c.args.i c.requires c.in_default.in_default-own.rest

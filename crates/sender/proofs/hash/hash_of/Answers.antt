@@ -7,7 +7,7 @@ returns-in-Corroborated c = cc
 
 pub returns-in-Group : goal.returns-in-Group
 returns-in-Group c =
-    cc (hash_group c.unit-in-Group-1.given.0.0)
+    cc (hash_group c.in-Group.group)
 
 pub returns-in-NoAddress : goal.returns-in-NoAddress
 returns-in-NoAddress c = cc (hash_none)
