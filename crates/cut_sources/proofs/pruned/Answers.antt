@@ -1,4 +1,5 @@
 -- `cut_sources::pruned` meets its contract. Assumes nothing.
+use borrow.Author.Rules.{rules}
 use Rattle.std.proofs.Common.{sym, arith, le-ltb, lt-ltb}
 use Rattle.cut_sources.specs.Counted.{pruned, pruned_tags}
 use Rattle.cut_sources.proofs.Pruning.{frees_so}
@@ -24,3 +25,7 @@ returns c = record {
   upper_bound = c.prune.ensures.upper_bound;
   upper_bound_2 = λ h. let n = frees_so _ _ _ _ _ c.keep_from-k.ensures c.prune.ensures.counted_after (omega arith) (omega arith) in omega arith;
 }
+
+pub returns-then-n-counted-clause-upper_bound : goal.returns-then-n-counted-clause-upper_bound
+unfolding pruned pruned_tags
+returns-then-n-counted-clause-upper_bound c = search rules

@@ -7,7 +7,7 @@ loop-i-init c = (search rules, omega (arith, c.least-end.ensures), ran_none _ _ 
 
 pub overflow_add-i : goal.overflow_add-i
 overflow_add-i c =
-    omega (arith, c.loop-i-test.true, c.loop-i.invariant.1, c.well-formed)
+    omega (arith, c.loop-i-test.true, c.loop-i.invariant.1, c.well_formed)
 
 pub loop-i-smaller : goal.loop-i-smaller
 loop-i-smaller c =

@@ -1,4 +1,5 @@
 -- `label::key_text` meets its contract: five texts put one after the other.
+use Rattle.std.proofs.Common.{[]}
 use mathlib.Core.List.{◌∷◌}
 use native.Mathlib.Omega.{arith}
 use mathlib.Core.Path.{◌≡◌}

@@ -1,4 +1,5 @@
 -- `label::v6_text` meets its contract: five texts put one after the other.
+use Rattle.std.proofs.Common.{[]}
 use mathlib.Core.Path.{◌≡◌}
 use mathlib.Core.List.{◌∷◌}
 use Prim.Native.Nat.{◌/◌, ◌%◌}

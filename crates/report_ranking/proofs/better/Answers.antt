@@ -1,4 +1,5 @@
 -- `report_ranking::better` meets its contract: one source looked at. Assumes nothing.
+use borrow.Author.Rules.{rules}
 use mathlib.Core.Path.{sym, ◌∙◌}
 use Rattle.report_ranking.specs.Sources.{is_after, earlier, better}
 use Rattle.report_ranking.proofs.Keys.{same_cond}
@@ -18,3 +19,11 @@ returns-then-is_after c = record {
 pub returns-clause-value : goal.returns-clause-value
 unfolding better
 returns-clause-value c = simp (sym c.is_after.ensures, c.if-is_after.false)
+
+pub returns-then-e-best-clause-upper_bound : goal.returns-then-e-best-clause-upper_bound
+unfolding better
+returns-then-e-best-clause-upper_bound c = search rules
+
+pub returns-clause-upper_bound : goal.returns-clause-upper_bound
+unfolding better
+returns-clause-upper_bound c = search rules

@@ -1,3 +1,4 @@
+use borrow.Author.Rules.{rules}
 use Rattle.head.proofs.Bounds.{le_by}
 use Rattle.std.proofs.Common.{◌+◌, refl, ap, arith, le-ltb, lt-ltb, le-leb}
 use Rattle.head.specs.declared.Shedder.{Shedder}
@@ -29,3 +30,11 @@ returns c = record {
   tracked_value = ap (λ (h : Shedder). h.tracked) c.opened.ensures;
   next_bound_2 = le_by (ap (λ (h : Shedder). h.scan.remaining + h.scan.next) c.opened.ensures) (omega arith);
 }
+
+pub returns-then-s-ge1-clause-next_bound_2 : goal.returns-then-s-ge1-clause-next_bound_2
+unfolding begun opened
+returns-then-s-ge1-clause-next_bound_2 c = search rules
+
+pub returns-then-clock-s-clause-next_bound_2 : goal.returns-then-clock-s-clause-next_bound_2
+unfolding begun opened
+returns-then-clock-s-clause-next_bound_2 c = search rules

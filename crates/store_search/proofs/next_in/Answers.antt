@@ -32,3 +32,11 @@ returns-clause-none c = c.loop-i.invariant.3
 
 pub returns-clause-result_value : goal.returns-clause-result_value
 returns-clause-result_value c = λ l. absurd (omega arith)
+
+pub returns-then-table_at-table-clause-lower_bound : goal.returns-then-table_at-table-clause-lower_bound
+unfolding in_table
+returns-then-table_at-table-clause-lower_bound c = search rules
+
+pub returns-then-table_at-table-clause-upper_bound : goal.returns-then-table_at-table-clause-upper_bound
+unfolding in_table
+returns-then-table_at-table-clause-upper_bound c = search rules

@@ -27,3 +27,11 @@ returns-clause-none c = c.loop-i.invariant.3
 
 pub returns-clause-result_value : goal.returns-clause-result_value
 returns-clause-result_value c = λ l. absurd (omega arith)
+
+pub returns-then-tags-i-clause-lower_bound : goal.returns-then-tags-i-clause-lower_bound
+unfolding has_tag
+returns-then-tags-i-clause-lower_bound c = search rules
+
+pub returns-then-tags-i-clause-upper_bound : goal.returns-then-tags-i-clause-upper_bound
+unfolding has_tag
+returns-then-tags-i-clause-upper_bound c = search rules

@@ -1,4 +1,5 @@
 -- `wants::counted` meets its contract: the whole number summed so far is, as a double, the sum of the buckets passed. Assumes nothing.
+use Rattle.std.proofs.Common.{[]}
 use Rattle.flow.specs.Flow.{dims}
 use Rattle.std.proofs.Common.{◌≡◌, ◌-◌, ◌*◌, ◌<◌, ◌≤◌, get_or}
 use Rattle.wants.specs.Wants.{counted}

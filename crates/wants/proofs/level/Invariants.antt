@@ -1,4 +1,5 @@
 -- `wants::level` meets its contract: so far every bucket fits, with what is left and who remains. Assumes nothing.
+use Rattle.std.proofs.Common.{[]}
 use Rattle.flow.specs.Flow.{dims}
 use Rattle.wants.specs.Wants.{fits, walked}
 use Rattle.std.proofs.Common.{◌≡◌, ◌-◌, ◌<◌, ◌≤◌, get_or}

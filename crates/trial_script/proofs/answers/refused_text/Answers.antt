@@ -1,4 +1,5 @@
 -- `answers::refused_text` meets its contract: three texts put one after the other.
+use Rattle.std.proofs.Common.{[]}
 use mathlib.Core.Path.{◌≡◌}
 use mathlib.Core.List.{◌∷◌}
 use native.Mathlib.Omega.{arith}
