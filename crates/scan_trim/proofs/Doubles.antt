@@ -128,6 +128,9 @@ le_up a b x p q h k = go x (above_of_le b x q (passed k)) (passed k)
     to_infinity (fin false m e) p = unfold le in refl
 
     go : (x : Float) → T (above x) → T (le b x) → le a x ≡ true
+    go nan r k = elim r [ ]
+    go (inf true) r k = elim r [ ]
+    go (fin true m e) r k = elim r [ ]
     go (inf false) r k = to_infinity a p
     go (fin false m e) r k = holds (le_trans_positive a b (fin false m e) p q r (passed h) k)
 
