@@ -4,10 +4,10 @@ use Rattle.cut.proofs.handed_back.Goals as goal
 
 pub entry-p-requires : goal.entry-p-requires
 entry-p-requires c = record {
-  room_in_bounds = c.requires.room_in_bounds;
+  room_in_bounds = c.requires.unit_room_in_bounds;
   units_len = c.requires.units_len;
   uses_len = c.requires.uses_len;
-  tracked_le_room = c.requires.tracked_le_room;
+  tracked_le_room = c.requires.tracked_bound;
   name_value = c.requires.name_value;
   i_value = c.requires.i_value;
 }

@@ -25,7 +25,7 @@ count_verdict-t-requires c = record {
 
 pub scanned-s-requires : goal.scanned-s-requires
 scanned-s-requires c = record {
-  tracked_in_bounds = le_by c.count_verdict-t.ensures.tracked_value (le_within _ c.judged-p.ensures.tracked_bound_2 (c.count_verdict-t.auto.counted ∙ c.judged-p.auto.tags ∙ c.requires.ready.tags_room));
+  tracked_in_bounds = le_by c.count_verdict-t.ensures.tracked_value (le_within _ c.judged-p.ensures.tracked_bound_2 (c.count_verdict-t.auto.tags ∙ c.judged-p.auto.tags ∙ c.requires.ready.tags_room));
   tracked_in_bounds_2 = le_by c.count_verdict-t.ensures.tracked_value (le_to c.judged-p.ensures.tracked_bound_2 (c.judged-p.auto.units ∙ c.requires.ready.units_room));
   tracked_in_bounds_3 = le_by c.count_verdict-t.ensures.tracked_value (le_to c.judged-p.ensures.tracked_bound_2 (c.judged-p.auto.uses ∙ c.requires.ready.uses_room));
   began_ms_bound = lt_by (ap (λ (s : Scan). s.began_ms) (c.count_verdict-t.ensures.scan_value ∙ c.judged-p.ensures.scan_value)) c.requires.ready.began_held;
@@ -34,7 +34,7 @@ scanned-s-requires c = record {
 
 pub shape_of-tags : goal.shape_of-tags
 shape_of-tags c =
-    c.scanned-s.auto.tags ∙ c.count_verdict-t.auto.counted ∙ c.judged-p.auto.tags
+    c.scanned-s.auto.tags ∙ c.count_verdict-t.auto.tags ∙ c.judged-p.auto.tags
 
 pub shape_of-units : goal.shape_of-units
 shape_of-units c =

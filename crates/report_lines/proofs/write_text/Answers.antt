@@ -11,7 +11,7 @@ use Rattle.report_lines.proofs.write_text.Goals as goal
 
 pub returns : goal.returns
 returns c =
-    let room : length c.args.own.now ≡ head_most + SOURCES_REPORTED * 139 = c.put_head-arg-1.given.0.1 in let all_of_them = text_put c.args.head c.args.counted.now c.args.own.now c.put_sources.new.0 c.put_sources.result
+    let room : length c.args.own.now ≡ head_most + SOURCES_REPORTED * 139 = c.put_head-arg-1.given.0.1 in let all_of_them = text_put c.args.head c.args.counted.now c.args.own.now c.put_sources.new.out c.put_sources.result
     (omega (arith, room, text_short c.args.head c.args.counted.now c.put_head-end.ensures.head_len_bound))
     c.put_head-end.ensures.result_after c.put_sources.ensures in record {
       prefix_len = all_of_them.0;

@@ -5,4 +5,4 @@ use Rattle.trial.proofs.refused.Goals as goal
 
 pub returns : goal.returns
 returns c =
-    λ m. refused_step (state c.args.t m c.args.out.now) c.args.n _ c.Put-refused.ensures
+    λ m. refused_step (state c.args.t m c.args.out.now) c.args.n _ c.put_refused.ensures

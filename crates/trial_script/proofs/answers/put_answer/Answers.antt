@@ -26,5 +26,5 @@ returns-in-RelayRate c =
 pub returns-in-Refused : goal.returns-in-Refused
 unfolding answer_text
 returns-in-Refused c =
-    c.Put-refused.ensures
+    c.put_refused.ensures
     ∙ ap (λ (x : Answer). write (page c.args.out.now c.args.at) (answer_text x)) (sym c.in-Refused.is)

@@ -14,5 +14,5 @@ returns-in-Started c =
 pub returns-in-Refused : goal.returns-in-Refused
 unfolding begin_text
 returns-in-Refused c =
-    c.Put-refused.ensures
+    c.put_refused.ensures
     ∙ ap (λ (x : Begin). write (page c.args.out.now c.args.at) (begin_text x)) (sym c.in-Refused.is)

@@ -13,5 +13,5 @@ returns-in-Counted c =
 pub returns-in-Refused : goal.returns-in-Refused
 unfolding done_text
 returns-in-Refused c =
-    c.Put-refused.ensures
+    c.put_refused.ensures
     ∙ ap (λ (x : Done). write (page c.args.out.now c.args.at) (done_text x)) (sym c.in-Refused.is)
