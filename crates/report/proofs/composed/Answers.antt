@@ -13,14 +13,14 @@ write_text-n-requires c =
     (sym c.memory_whole.ensures ∙ c.if-memory_whole.true)
 
 pub returns-then-n-room : goal.returns-then-n-room
-returns-then-n-room c = let e = c.write_text-n.ensures in let n : c.write_text-n.result ≡ length (text c.args.head c.args.counted.now) = e.0.1 ∙ ap length e.1.0 in let w = taken c.args.head c.args.tags c.args.units c.args.uses c.args.counted.now c.args.room (asked_none c.args.head c.args.tags c.args.units c.args.uses c.args.counted.now c.args.room (sym c.head_whole.ensures ∙ c.if-head_whole.true) (sym c.memory_whole.ensures ∙ c.if-memory_whole.true) (omega (arith, n, c.if-n-room.true))) in record {
+returns-then-n-room c = let e = c.write_text-n.ensures in let n : c.write_text-n.result ≡ length (text c.args.head c.args.counted.now) = e.prefix_len.1 ∙ ap length e.own_after in let w = taken c.args.head c.args.tags c.args.units c.args.uses c.args.counted.now c.args.room (asked_none c.args.head c.args.tags c.args.units c.args.uses c.args.counted.now c.args.room (sym c.head_whole.ensures ∙ c.if-head_whole.true) (sym c.memory_whole.ensures ∙ c.if-memory_whole.true) (omega (arith, n, c.if-n-room.true))) in record {
   value = ap Bytes n ∙ w.0;
-  prefix_len = e.0;
-  own_after = e.1.0 ∙ w.1;
+  prefix_len = e.prefix_len;
+  own_after = e.own_after ∙ w.1;
 }
 
 pub returns-then-memory_whole : goal.returns-then-memory_whole
-returns-then-memory_whole c = let e = c.write_text-n.ensures in let n : c.write_text-n.result ≡ length (text c.args.head c.args.counted.now) = e.0.1 ∙ ap length e.1.0 in let w = refused c.args.head c.args.tags c.args.units c.args.uses c.args.counted.now c.args.room 7 refl (asked_room c.args.head c.args.tags c.args.units c.args.uses c.args.counted.now c.args.room (sym c.head_whole.ensures ∙ c.if-head_whole.true) (sym c.memory_whole.ensures ∙ c.if-memory_whole.true) (omega (arith, n, c.if-n-room.false))) in record {
+returns-then-memory_whole c = let e = c.write_text-n.ensures in let n : c.write_text-n.result ≡ length (text c.args.head c.args.counted.now) = e.prefix_len.1 ∙ ap length e.own_after in let w = refused c.args.head c.args.tags c.args.units c.args.uses c.args.counted.now c.args.room 7 refl (asked_room c.args.head c.args.tags c.args.units c.args.uses c.args.counted.now c.args.room (sym c.head_whole.ensures ∙ c.if-head_whole.true) (sym c.memory_whole.ensures ∙ c.if-memory_whole.true) (omega (arith, n, c.if-n-room.false))) in record {
   value = w.0;
   prefix_len = (omega arith, refl);
   own_after = w.1;
