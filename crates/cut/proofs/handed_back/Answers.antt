@@ -14,19 +14,19 @@ entry-p-requires c = record {
 
 pub put_back-shared-requires : goal.put_back-shared-requires
 put_back-shared-requires c =
-    c.entry-p.auto.1.0 ∙ c.requires.units_len ∙ sym c.requires.uses_len ∙ sym c.entry-p.auto.1.1.0
+    c.entry-p.auto.units ∙ c.requires.units_len ∙ sym c.requires.uses_len ∙ sym c.entry-p.auto.uses
 
 pub shape_of-tags : goal.shape_of-tags
 shape_of-tags c =
-    c.entry-p.auto.0
+    c.entry-p.auto.tags
 
 pub shape_of-units : goal.shape_of-units
 shape_of-units c =
-    c.put_back-shared.auto.0 ∙ c.entry-p.auto.1.0
+    c.put_back-shared.auto.units ∙ c.entry-p.auto.units
 
 pub shape_of-uses : goal.shape_of-uses
 shape_of-uses c =
-    c.put_back-shared.auto.1.0 ∙ c.entry-p.auto.1.1.0
+    c.put_back-shared.auto.uses ∙ c.entry-p.auto.uses
 
 pub returns : goal.returns
 returns c = record {

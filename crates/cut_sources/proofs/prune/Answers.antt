@@ -12,12 +12,12 @@ pub loop-i-preserved : goal.loop-i-preserved
 loop-i-preserved c = (
   search rules,
   search rules,
-  omega (arith, c.prune_one-j.auto.1.0),
-  c.prune_one-j.auto.1.0 ∙ c.loop-i.invariant.3,
+  omega (arith, c.prune_one-j.auto.counted),
+  c.prune_one-j.auto.counted ∙ c.loop-i.invariant.3,
   c.prune_one-j.ensures.counted_after ∙ ap (λ (s : Sources). prune_one s c.args.k c.loop-i.i) c.loop-i.invariant.4
       ∙ sym (prune_next _ _ _ (omega (arith, c.loop-i.invariant.3))),
-  omega (arith, c.prune_one-j.auto.0),
-  c.prune_one-j.auto.0 ∙ c.loop-i.invariant.6,
+  omega (arith, c.prune_one-j.auto.tags),
+  c.prune_one-j.auto.tags ∙ c.loop-i.invariant.6,
   step_tags _ _ _ _ _ _ _ _ c.loop-i.invariant.4 c.loop-i.invariant.7 c.prune_one-j.ensures.tags_after,
 )
 

@@ -15,7 +15,7 @@ loop-i-init c = (search rules, refl, refl)
 pub loop-i-preserved : goal.loop-i-preserved
 loop-i-preserved c = (
   search rules,
-  c.put_decimal-end.auto.0 ∙ c.put_byte-end.auto.0 ∙ c.loop-i.invariant.1,
+  c.put_decimal-end.auto.out ∙ c.put_byte-end.auto.out ∙ c.loop-i.invariant.1,
   c.loop-i.invariant.2 ∙ numbers_next _ _ _ c.loop-i-test.true
       ∙ ap (λ (q : Page). writes q (numbers (drop (c.loop-i.i + 1) c.args.xs.now)))
       (sym (c.put_decimal-end.ensures
@@ -24,7 +24,7 @@ loop-i-preserved c = (
 
 pub shape_of-out : goal.shape_of-out
 shape_of-out c =
-    c.put_byte.auto.0 ∙ c.loop-i.invariant.1
+    c.put_byte.auto.out ∙ c.loop-i.invariant.1
 
 pub returns : goal.returns
 returns c =

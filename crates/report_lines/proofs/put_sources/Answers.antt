@@ -22,7 +22,7 @@ pub loop-left-preserved : goal.loop-left-preserved
 loop-left-preserved c = (
   c.first_after-next.ensures.upper_bound,
   search rules,
-  c.put_source-end.auto.0 ∙ c.loop-left.invariant.2,
+  c.put_source-end.auto.out ∙ c.loop-left.invariant.2,
   c.loop-left.invariant.3
       ∙ sources_next c.args.counted.now c.args.n c.loop-left.left c.loop-left.last
       c.first_after-next.result c.loop-left-test.true c.first_after-next.ensures.value _ c.if-next-n.false

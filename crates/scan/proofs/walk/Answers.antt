@@ -17,7 +17,7 @@ loop-i-preserved c = (
   search rules,
   c.next_in-i-in-loop-i.ensures.result_value,
   λ g e. c.walk_one.ensures
-      ∙ ap (walk_one _ c.args.table c.args.at-ms c.loop-i.i) (c.loop-i.invariant.5 g e) ∙ sym (walk-next _ _ _ _ _)
+      ∙ ap (walk_one _ c.args.table c.args.at_ms c.loop-i.i) (c.loop-i.invariant.5 g e) ∙ sym (walk-next _ _ _ _ _)
       ∙ sym (walk_past _ _ _ _ _ _ c.next_in-i-in-loop-i.ensures.lower_bound c.next_in-i-in-loop-i.ensures.none),
 )
 

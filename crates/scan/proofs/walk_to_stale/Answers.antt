@@ -35,7 +35,7 @@ loop-i-preserved c = (
   c.next_in-i-in-loop-i.ensures.result_value,
   none_join _ _ _ _ (none_next _ _ _ c.loop-i.invariant.5 (sym c.is_stale.ensures ∙ c.if-is_stale.false))
       (λ k l u. no_table _ _ _ _ _ (c.next_in-i-in-loop-i.ensures.none k l u)),
-  c.walk_one.ensures ∙ ap (walk_one _ c.args.table c.args.at-ms c.loop-i.i) c.loop-i.invariant.6
+  c.walk_one.ensures ∙ ap (walk_one _ c.args.table c.args.at_ms c.loop-i.i) c.loop-i.invariant.6
       ∙ sym (walk-next _ _ _ _ _) ∙ sym (walk_past _ _ _ _ _ _ c.next_in-i-in-loop-i.ensures.lower_bound c.next_in-i-in-loop-i.ensures.none),
 )
 

@@ -26,14 +26,14 @@ pub loop-i-preserved : goal.loop-i-preserved
 loop-i-preserved c = (
   search rules,
   search rules,
-  omega (arith, c.retain_one-j.auto.0),
-  c.retain_one-j.auto.0 ∙ c.loop-i.invariant.3,
-  c.retain_one-j.auto.1.0 ∙ c.loop-i.invariant.4,
-  c.retain_one-j.auto.1.1.0 ∙ c.loop-i.invariant.5,
-  omega (arith, c.retain_one-j.auto.1.0),
-  omega (arith, c.retain_one-j.auto.1.1.0),
+  omega (arith, c.retain_one-j.auto.tags),
+  c.retain_one-j.auto.tags ∙ c.loop-i.invariant.3,
+  c.retain_one-j.auto.units ∙ c.loop-i.invariant.4,
+  c.retain_one-j.auto.uses ∙ c.loop-i.invariant.5,
+  omega (arith, c.retain_one-j.auto.units),
+  omega (arith, c.retain_one-j.auto.uses),
   c.retain_one-j.ensures.uses_after
-      ∙ ap (λ (k : Kept). retain_one k c.args.table c.args.at-ms c.loop-i.i) c.loop-i.invariant.8
+      ∙ ap (λ (k : Kept). retain_one k c.args.table c.args.at_ms c.loop-i.i) c.loop-i.invariant.8
       ∙ sym (retained_next _ _ _ _),
   search rules,
 )

@@ -4,10 +4,10 @@ use borrow.Author.Tests.{ne_eqb}
 use native.Mathlib.Omega.{arith}
 use mathlib.Core.Path.{◌≡◌, sym, ◌∙◌}
 use mathlib.Core.Bool.{true≢false}
-use mathlib.Core.Logic.{inl, inr}
 use Rattle.store.specs.Store.{has_tag}
 use Rattle.store.proofs.Steps.{none_more}
 use Rattle.store_search.proofs.near_tag.Goals as goal
+use Rattle.store_search.proofs.near_tag.Goals.{then-tags-i, else-tags-i}
 
 pub loop-k-init : goal.loop-k-init
 loop-k-init c = (search rules, search rules, λ f j h l. absurd (omega arith))
@@ -18,8 +18,8 @@ loop-k-preserved c = (
   search rules,
   search rules,
   elim c.if-tags-i.branch [
-    | inl t ↦ λ f. absurd (true≢false (sym t.1 ∙ f))
-    | inr t ↦ λ f. none_more _ _ _ (c.loop-k.invariant.2 (sym t.1 ∙ f)) (ne_eqb _ _ t.0.left)
+    then-tags-i w ↦ λ f. absurd (true≢false (sym w.met-is ∙ f))
+    | else-tags-i w ↦ λ f. none_more _ _ _ (c.loop-k.invariant.2 (sym w.met-is ∙ f)) (ne_eqb _ _ w.if-tags-i.false)
   ],
 )
 

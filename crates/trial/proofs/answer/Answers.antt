@@ -19,14 +19,14 @@ unfolding call
 returns-in-Start c =
     let m = memory (rows c.args.tags.now c.args.units.now c.args.uses.now) (hist c.args.counts.now c.args.sums.now) c.args.counted.now in
     let s = state c.args.t m c.args.out.now in
-    answer_line s c.args.line.now _ _ (omega (arith, c.if-line-gt-LINE_MOST.false)) c.read_line-l.ensures.value (c.start.ensures ∙ ap (call s) (sym c.l-1.given.1))
+    answer_line s c.args.line.now _ _ (omega (arith, c.if-line-gt-LINE_MOST.false)) c.read_line-l.ensures.value (c.start.ensures ∙ ap (call s) (sym c.in-Start.is))
 
 pub returns-in-Judge : goal.returns-in-Judge
 unfolding call
 returns-in-Judge c =
     let m = memory (rows c.args.tags.now c.args.units.now c.args.uses.now) (hist c.args.counts.now c.args.sums.now) c.args.counted.now in
     let s = state c.args.t m c.args.out.now in
-    answer_line s c.args.line.now _ _ (omega (arith, c.if-line-gt-LINE_MOST.false)) c.read_line-l.ensures.value (c.judge.ensures ∙ ap (call s) (sym c.l-in-Judge-1.given.1))
+    answer_line s c.args.line.now _ _ (omega (arith, c.if-line-gt-LINE_MOST.false)) c.read_line-l.ensures.value (c.judge.ensures ∙ ap (call s) (sym c.in-Judge.is))
 
 pub returns-in-Cut : goal.returns-in-Cut
 unfolding call
@@ -34,7 +34,7 @@ returns-in-Cut c =
     let g = hist c.args.counts.now c.args.sums.now in
     let m = memory (rows c.args.tags.now c.args.units.now c.args.uses.now) g c.args.counted.now in
     let s = state c.args.t m c.args.out.now in
-    answer_line s c.args.line.now _ _ (omega (arith, c.if-line-gt-LINE_MOST.false)) c.read_line-l.ensures.value (c.cut.ensures g ∙ ap (call s) (sym c.l-in-Cut-1.given.1))
+    answer_line s c.args.line.now _ _ (omega (arith, c.if-line-gt-LINE_MOST.false)) c.read_line-l.ensures.value (c.cut.ensures g ∙ ap (call s) (sym c.in-Cut.is))
 
 pub returns-in-Report : goal.returns-in-Report
 unfolding call
@@ -43,7 +43,7 @@ returns-in-Report c =
     let m = memory (rows c.args.tags.now c.args.units.now c.args.uses.now) g c.args.counted.now in
     let s = state c.args.t m c.args.out.now in
     answer_line s c.args.line.now _ _ (omega (arith, c.if-line-gt-LINE_MOST.false)) c.read_line-l.ensures.value
-    (c.report.ensures g ∙ ap (call s) (sym c.enum_told-1.given.1))
+    (c.report.ensures g ∙ ap (call s) (sym c.in-Report.is))
 
 pub returns-in-Nothing : goal.returns-in-Nothing
 unfolding call
@@ -51,4 +51,4 @@ returns-in-Nothing c =
     let m = memory (rows c.args.tags.now c.args.units.now c.args.uses.now) (hist c.args.counts.now c.args.sums.now) c.args.counted.now in
     let s = state c.args.t m c.args.out.now in
     answer_line s c.args.line.now _ _ (omega (arith, c.if-line-gt-LINE_MOST.false)) c.read_line-l.ensures.value
-    (c.refused-in-Nothing.ensures m ∙ ap (call s) (sym c.enum_told-in-Nothing-1.given.1))
+    (c.refused-in-Nothing.ensures m ∙ ap (call s) (sym c.in-Nothing.is))

@@ -3,7 +3,7 @@ use Rattle.codes.proofs.decisions.decision_of.Goals as goal
 
 pub returns-in-Refused : goal.returns-in-Refused
 unfolding decision_of
-returns-in-Refused c = rw c.enum_told-1.given.1 c.coded.ensures
+returns-in-Refused c = rw c.in-Refused.is c.coded.ensures
 
 pub returns-in-Ruled : goal.returns-in-Ruled
 unfolding decision_of

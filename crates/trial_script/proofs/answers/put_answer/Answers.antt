@@ -9,22 +9,22 @@ pub returns-in-Admitted : goal.returns-in-Admitted
 unfolding answer_text
 returns-in-Admitted c =
     c.put.ensures
-    ∙ ap (λ (x : Answer). write (page c.args.out.now c.args.at) (answer_text x)) (sym c.enum_told-1.given.1)
+    ∙ ap (λ (x : Answer). write (page c.args.out.now c.args.at) (answer_text x)) (sym c.in-Admitted.is)
 
 pub returns-in-OverShare : goal.returns-in-OverShare
 unfolding answer_text
 returns-in-OverShare c =
     c.put-in-OverShare.ensures
-    ∙ ap (λ (x : Answer). write (page c.args.out.now c.args.at) (answer_text x)) (sym c.enum_told-in-OverShare-1.given.1)
+    ∙ ap (λ (x : Answer). write (page c.args.out.now c.args.at) (answer_text x)) (sym c.in-OverShare.is)
 
 pub returns-in-RelayRate : goal.returns-in-RelayRate
 unfolding answer_text
 returns-in-RelayRate c =
     c.put-in-RelayRate.ensures
-    ∙ ap (λ (x : Answer). write (page c.args.out.now c.args.at) (answer_text x)) (sym c.enum_told-in-RelayRate-1.given.1)
+    ∙ ap (λ (x : Answer). write (page c.args.out.now c.args.at) (answer_text x)) (sym c.in-RelayRate.is)
 
 pub returns-in-Refused : goal.returns-in-Refused
 unfolding answer_text
 returns-in-Refused c =
     c.Put-refused.ensures
-    ∙ ap (λ (x : Answer). write (page c.args.out.now c.args.at) (answer_text x)) (sym c.answer-1.given.1)
+    ∙ ap (λ (x : Answer). write (page c.args.out.now c.args.at) (answer_text x)) (sym c.in-Refused.is)

@@ -9,10 +9,10 @@ pub returns-in-Started : goal.returns-in-Started
 unfolding begin_text
 returns-in-Started c =
     c.put.ensures
-    ∙ ap (λ (x : Begin). write (page c.args.out.now c.args.at) (begin_text x)) (sym c.enum_told-1.given.1)
+    ∙ ap (λ (x : Begin). write (page c.args.out.now c.args.at) (begin_text x)) (sym c.in-Started.is)
 
 pub returns-in-Refused : goal.returns-in-Refused
 unfolding begin_text
 returns-in-Refused c =
     c.Put-refused.ensures
-    ∙ ap (λ (x : Begin). write (page c.args.out.now c.args.at) (begin_text x)) (sym c.answer-1.given.1)
+    ∙ ap (λ (x : Begin). write (page c.args.out.now c.args.at) (begin_text x)) (sym c.in-Refused.is)

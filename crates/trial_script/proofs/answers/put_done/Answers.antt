@@ -8,10 +8,10 @@ use Rattle.trial_script.proofs.answers.put_done.Goals as goal
 pub returns-in-Counted : goal.returns-in-Counted
 unfolding done_text
 returns-in-Counted c =
-    c.put.ensures ∙ ap (λ (x : Done). write (page c.args.out.now c.args.at) (done_text x)) (sym c.enum_told-1.given.1)
+    c.put.ensures ∙ ap (λ (x : Done). write (page c.args.out.now c.args.at) (done_text x)) (sym c.in-Counted.is)
 
 pub returns-in-Refused : goal.returns-in-Refused
 unfolding done_text
 returns-in-Refused c =
     c.Put-refused.ensures
-    ∙ ap (λ (x : Done). write (page c.args.out.now c.args.at) (done_text x)) (sym c.answer-1.given.1)
+    ∙ ap (λ (x : Done). write (page c.args.out.now c.args.at) (done_text x)) (sym c.in-Refused.is)
