@@ -46,17 +46,20 @@ sum_number s a t b c = pick (beq s t) _ _ (round_number s (a + b) c) (pick (ltb 
 -- ---- a finite value and a number: their sum is a number
 pub add_number : (x : Float) (s : Bool) (m : ℕ) (e : ℤ) → Number x → Number (Ieee.add binary64 x (fin s m e))
 unfolding Ieee.add
+add_number nan s m e x'' = elim x'' [ ]
 add_number (inf t) s m e infinite = infinite
 add_number (fin t n d) s m e finite = sum_number t (n * up d * down e) s (m * up e * down d) (down d * down e)
 
 pub add_to : (x : Float) (s : Bool) (m : ℕ) (e : ℤ) → Number x → Number (Ieee.add binary64 (fin s m e) x)
 unfolding Ieee.add
+add_to nan s m e x'' = elim x'' [ ]
 add_to (inf t) s m e infinite = infinite
 add_to (fin t n d) s m e finite = sum_number s (m * up e * down d) t (n * up d * down e) (down e * down d)
 
 -- ---- the product of one that is finite and not zero with a number is a number
 pub mul_number : (s : Bool) (m : ℕ) (e : ℤ) (x : Float) → (m ≡ 0 → ⊥) → Number x → Number (Ieee.mul binary64 (fin s m e) x)
 unfolding Ieee.mul
+mul_number s m e nan o x3 = elim x3 [ ]
 mul_number s m e (inf t) o infinite = rw (ne_eqb m 0 o) infinite
 mul_number s m e (fin t n d) o finite = round_number (unlike s t) (m * up e * (n * up d)) (down e * down d)
 
@@ -100,6 +103,9 @@ not-below false true a b h = elim (dec_le (b + a) 0) [ yes m ↦ rw (eq-eqb b a 
 
 not-lt : (x y : Float) → Number x → Number y → lt x y ≡ false → le y x ≡ true
 unfolding le
+not-lt nan y x4 _ h = elim x4 [ ]
+not-lt (inf s) nan _ x9 h = elim x9 [ ]
+not-lt (fin s m e) nan _ x10 h = elim x10 [ ]
 not-lt (inf s) (inf t) infinite infinite h = infinite_below s t h
 not-lt (inf true) (fin t n d) infinite finite h = absurd (true≢false h)
 not-lt (inf false) (fin t n d) infinite finite h = refl
@@ -116,9 +122,15 @@ le_up : (a b x : Float) → T (positive a) → T (positive b) → le a b ≡ tru
 le_up a b x p q h k = go x (above_of_le b x q (passed k)) (passed k)
   where
     to_infinity : (a : Float) → T (positive a) → le a (inf false) ≡ true
+    to_infinity nan p = elim p [ ]
+    to_infinity (inf _) p = elim p [ ]
+    to_infinity (fin true m e) p = elim p [ ]
     to_infinity (fin false m e) p = unfold le in refl
 
     go : (x : Float) → T (above x) → T (le b x) → le a x ≡ true
+    go nan r k = elim r [ ]
+    go (inf true) r k = elim r [ ]
+    go (fin true m e) r k = elim r [ ]
     go (inf false) r k = to_infinity a p
     go (fin false m e) r k = holds (le_trans_positive a b (fin false m e) p q r (passed h) k)
 
@@ -139,9 +151,15 @@ pub data Finite : Float → Type 0 where
   some : {s : Bool} {m : ℕ} {e : ℤ} → (m ≡ 0 → ⊥) → Finite (fin s m e)
 
 pub positive-finite : (x : Float) → T (positive x) → Finite x
+positive-finite nan p = elim p [ ]
+positive-finite (inf _) p = elim p [ ]
+positive-finite (fin true m e) p = elim p [ ]
 positive-finite (fin false m e) p = some (λ (z : m ≡ 0). omega (arith, ltb→lt 0 m p))
 
 positive_number : (x : Float) → T (positive x) → Number x
+positive_number nan p = elim p [ ]
+positive_number (inf _) p = elim p [ ]
+positive_number (fin true m e) p = elim p [ ]
 positive_number (fin false m e) p = finite
 
 -- ---- a number clamped to two trims is a trim

@@ -93,6 +93,8 @@ span_finite gain span f h k = elim (above span f h) [
 ]
 
 times : (x y : Float) → Finite x → Number y → Number (Ieee.mul binary64 x y)
+times nan y x3 n = elim x3 [ ]
+times (inf _) y x5 n = elim x5 [ ]
 times (fin s m e) y (some o) n = mul_number s m e y o n
 
 less_one : (x : Float) → Number x → Number (Ieee.sub binary64 x one)

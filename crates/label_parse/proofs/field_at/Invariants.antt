@@ -6,7 +6,7 @@ use Rattle.label_parse.proofs.field_at.Given as goal
 
 abbrev pub invariant-loop-left : goal.invariant-loop-left
 invariant-loop-left l =
-    (field l.base l.left l.s (record { l.value = l.value; l.at = l.at }) ≡ field l.base l.most l.s (from l.start))
+    (field l.base l.left l.s (record { value = l.value; at = l.at }) ≡ field l.base l.most l.s (from l.start))
     × (l.at + l.left ≡ l.start + l.most) × (l.left ≤ l.most) × (l.value < l.base ^ (l.most - l.left))
 
 abbrev pub decreases-loop-left : goal.decreases-loop-left

@@ -4,10 +4,10 @@ use borrow.Author.Tests.{ne_eqb}
 use native.Mathlib.Omega.{arith}
 use mathlib.Core.Path.{◌≡◌, sym, ap, ◌∙◌}
 use mathlib.Core.Bool.{true≢false}
-use mathlib.Core.Logic.{inl, inr}
 use Rattle.store.specs.Store.{in_table, lower}
 use Rattle.store.proofs.Steps.{none_more}
 use Rattle.store_search.proofs.near_table.Goals as goal
+use Rattle.store_search.proofs.near_table.Goals.{then-lower-low, else-lower-low}
 
 pub loop-k-init : goal.loop-k-init
 loop-k-init c = (search rules, search rules, c.lower-low.ensures, λ f j h l. absurd (omega arith))
@@ -19,9 +19,9 @@ loop-k-preserved c = (
   search rules,
   c.loop-k.invariant.2,
   elim c.if-lower-low.branch [
-    | inl t ↦ λ f. absurd (true≢false (sym t.1 ∙ f))
-    | inr t ↦ λ f. none_more _ _ _ (c.loop-k.invariant.3 (sym t.1 ∙ f))
-        (ne_eqb _ _ (λ q. t.0.left (c.lower.ensures ∙ ap lower (c.table_at.ensures ∙ q) ∙ sym c.loop-k.invariant.2)))
+    then-lower-low w ↦ λ f. absurd (true≢false (sym w.met-is ∙ f))
+    | else-lower-low w ↦ λ f. none_more _ _ _ (c.loop-k.invariant.3 (sym w.met-is ∙ f))
+        (ne_eqb _ _ (λ q. w.if-lower-low.false (c.lower.ensures ∙ ap lower (c.table_at.ensures ∙ q) ∙ sym c.loop-k.invariant.2)))
   ],
 )
 
