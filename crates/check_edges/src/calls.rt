@@ -2,6 +2,7 @@
 use check_steps::{DONE, Tried};
 use flow::DIMS;
 use head::{Cause, Shedder};
+use std::io;
 use store::{SourceRow, UnitRow, UseRow};
 use trial::Trial;
 use wants::{Counts, Sums};
@@ -70,6 +71,7 @@ fn cut(
 // The report, as the front part of out and as written by the call under it, and the call beside it. The number of a report
 // is told by the call beside it; a report that is refused has an empty front part.
 fn report(
+    rt: &impl Print,
     call: u64,
     head: Shedder,
     tags: &[u16],
@@ -77,23 +79,23 @@ fn report(
     uses: &[UseRow],
     counted: &[SourceRow],
     out: &mut [u8],
-) -> Tried {
+) -> io::Result<Tried> {
     let no = report::report_refusal(head, tags, units, uses, counted, out);
     if call == 6 {
-        return check_steps::after(no, head);
+        return Ok(check_steps::after(no, head));
     }
     if call == 5 {
         let w = codes::read_written(report::write_report(head, tags, units, uses, counted, out));
         let n = w.value as usize;
-        check_steps::page(trial_script::front(out, n));
-        return check_steps::written(w.refusal, head, n);
+        check_steps::page(rt, trial_script::front(out, n))?;
+        return Ok(check_steps::written(w.refusal, head, n));
     }
     let front = report::report(head, tags, units, uses, counted, out);
-    check_steps::page(front);
+    check_steps::page(rt, front)?;
     if front.len() == 0 {
-        return check_steps::after(no, head);
+        return Ok(check_steps::after(no, head));
     }
-    check_steps::written(DONE, head, front.len())
+    Ok(check_steps::written(DONE, head, front.len()))
 }
 
 // No word of the histogram is 0.
@@ -113,6 +115,7 @@ const FIRST_LINE: u64 = 13;
 
 // A line of the trial's language, which is answered at the front of out.
 fn line(
+    rt: &impl Print,
     n: u64,
     head: Shedder,
     tags: &mut [u16],
@@ -122,7 +125,7 @@ fn line(
     sums: &mut Sums,
     counted: &mut [SourceRow],
     out: &mut [u8],
-) -> Tried {
+) -> io::Result<Tried> {
     let lines = b"\
         J no-address 1 1 2000   \
         P                       \
@@ -140,18 +143,19 @@ fn line(
         at: 0,
     };
     let a = trial::answer(t, tags, units, uses, counts, sums, counted, line, out);
-    check_steps::line(line, out, a.at);
+    check_steps::line(rt, line, out, a.at)?;
     let now = a.head;
-    Tried {
+    Ok(Tried {
         number: DONE,
         head: now,
         at: a.at,
         unchanged: a.is_started == is_started,
-    }
+    })
 }
 
 // A cut, a report or a reading.
 fn aside(
+    rt: &impl Print,
     row: usize,
     call: u64,
     head: Shedder,
@@ -160,16 +164,17 @@ fn aside(
     uses: &mut [UseRow],
     counted: &mut [SourceRow],
     out: &mut [u8],
-) -> Tried {
+) -> io::Result<Tried> {
     match call {
-        3 => cut(row, head, tags, units, uses, counted),
-        4..=6 => report(call, head, tags, units, uses, counted, out),
-        _ => check_steps::after(check_steps::reading(call, head), head),
+        3 => Ok(cut(row, head, tags, units, uses, counted)),
+        4..=6 => report(rt, call, head, tags, units, uses, counted, out),
+        _ => Ok(check_steps::after(check_steps::reading(call, head), head)),
     }
 }
 
 // The call of a row.
 pub fn answered(
+    rt: &impl Print,
     row: usize,
     head: Shedder,
     tags: &mut [u16],
@@ -179,12 +184,14 @@ pub fn answered(
     sums: &mut Sums,
     counted: &mut [SourceRow],
     out: &mut [u8],
-) -> Tried {
+) -> io::Result<Tried> {
     let call = check_steps::letter(row, check_steps::CALL);
     match call {
-        1..=2 => judge(row, call, head, tags, units, uses, counts, sums, counted),
-        3..=11 => aside(row, call, head, tags, units, uses, counted, out),
-        12 => check_steps::after(fill(counts, sums), head),
-        _ => line(call, head, tags, units, uses, counts, sums, counted, out),
+        1..=2 => Ok(judge(row, call, head, tags, units, uses, counts, sums, counted)),
+        3..=11 => aside(rt, row, call, head, tags, units, uses, counted, out),
+        12 => Ok(check_steps::after(fill(counts, sums), head)),
+        _ => line(
+            rt, call, head, tags, units, uses, counts, sums, counted, out,
+        ),
     }
 }

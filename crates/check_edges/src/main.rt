@@ -7,9 +7,10 @@ mod steps;
 
 use check_steps::{COUNTED, TAGS, UNITS};
 use flow::DIMS;
+use std::io;
 
-fn main() {
-    check_steps::run();
+fn main(rt: HostRuntime) -> io::Result<()> {
+    check_steps::run(&rt)?;
     let mut tags = [0x0101u16; TAGS];
     let unit = [0x0202020202020202u64; 7];
     let mut units = [unit; UNITS];
@@ -27,6 +28,7 @@ fn main() {
     while i < check_steps::STEPS {
         let row = check_steps::row_of(i);
         let t = steps::tried(
+            &rt,
             row,
             check_steps::unfit(head, row),
             &mut tags,
@@ -35,8 +37,9 @@ fn main() {
             &mut counts,
             &mut sums,
             &mut counted,
-        );
-        head = check_steps::step(row, head, t);
+        )?;
+        head = check_steps::step(&rt, row, head, t)?;
         i += 1;
     }
+    Ok(())
 }

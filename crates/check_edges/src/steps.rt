@@ -3,11 +3,13 @@ use crate::calls;
 use check_steps::{COUNTED, OUT, TAGS, Tried, UNITS};
 use flow::DIMS;
 use head::Shedder;
+use std::io;
 use store::{SourceRow, UnitRow, UseRow};
 use wants::{Counts, Sums};
 
 // The call over so much of each slice as it is to be lent.
 fn lent(
+    rt: &impl Print,
     row: usize,
     head: Shedder,
     tags: &mut [u16],
@@ -17,13 +19,14 @@ fn lent(
     sums: &mut Sums,
     counted: &mut [SourceRow],
     out: &mut [u8],
-) -> Tried {
+) -> io::Result<Tried> {
     let h = check_steps::digit(row, check_steps::TAGS_LENT, tags.len());
     let u = check_steps::digit(row, check_steps::UNITS_LENT, units.len());
     let s = check_steps::digit(row, check_steps::USES, uses.len());
     let k = check_steps::digit(row, check_steps::COUNTED_LENT, counted.len());
     let n = check_steps::value_up_to(row, check_steps::OUT_LENT, out.len());
     calls::answered(
+        rt,
         row,
         head,
         &mut tags[..h],
@@ -38,6 +41,7 @@ fn lent(
 
 // What came of a step, compared with what was before it.
 pub fn tried(
+    rt: &impl Print,
     row: usize,
     head: Shedder,
     tags: &mut [u16; TAGS],
@@ -46,7 +50,7 @@ pub fn tried(
     counts: &mut Counts,
     sums: &mut Sums,
     counted: &mut [[u64; 8]; COUNTED],
-) -> Tried {
+) -> io::Result<Tried> {
     let was_tags = *tags;
     let was_units = *units;
     let was_uses = *uses;
@@ -55,8 +59,8 @@ pub fn tried(
     let was_counted = *counted;
     let mut out = [b'.'; OUT];
     let mut t = lent(
-        row, head, tags, units, uses, counts, sums, counted, &mut out,
-    );
+        rt, row, head, tags, units, uses, counts, sums, counted, &mut out,
+    )?;
     let memory = check_steps::memory(
         tags,
         units,
@@ -75,5 +79,5 @@ pub fn tried(
     let page = check_steps::dots_from(&out, t.at);
     let whole = check_steps::head(now, head);
     t.unchanged = t.unchanged && memory && page && whole;
-    t
+    Ok(t)
 }

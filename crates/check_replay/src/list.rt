@@ -2,8 +2,8 @@
 // W line behind it runs it.
 use crate::runs;
 use flow::DIMS;
-use libc::{STDIN_FILENO, STDOUT_FILENO};
 use sender::Unit;
+use std::io::{self, Read};
 use trial_script::{Amounts, CutLine, FEED, JudgeLine, LINE, LINE_MOST, Line, StartLine, front};
 
 // The rows that a list may have.
@@ -118,7 +118,7 @@ fn readings(list: List, rows: &mut [[u64; 7 + DIMS]; ROWS]) -> List {
 
 // `W label from to`, of which s is the part behind `W `: the list is run with that record watched, the run being the rows
 // from `from` to before `to`.
-fn watch(l: List, rows: &[[u64; 7 + DIMS]; ROWS], s: &[u8]) {
+fn watch(rt: &impl Print, l: List, rows: &[[u64; 7 + DIMS]; ROWS], s: &[u8]) -> io::Result<()> {
     let name = trial_script::first(s);
     let numbers = trial_script::rest(s);
     if label_parse::is_label(name) {
@@ -127,89 +127,111 @@ fn watch(l: List, rows: &[[u64; 7 + DIMS]; ROWS], s: &[u8]) {
             let watched = label_parse::unit_in(name);
             let from = trial_script::number_at(numbers, 0) as usize;
             let to = trial_script::number_at(numbers, 1) as usize;
-            runs::run(start, first_rows(rows, l.rows), watched, from, to);
+            runs::run(rt, start, first_rows(rows, l.rows), watched, from, to)?;
         }
     }
+    Ok(())
 }
 
 // The line is said again, so that what it gives stands below it.
-fn watched(l: List, rows: &[[u64; 7 + DIMS]; ROWS], line: &[u8]) {
+fn watched(
+    rt: &impl Print,
+    l: List,
+    rows: &[[u64; 7 + DIMS]; ROWS],
+    line: &[u8],
+) -> io::Result<()> {
     if text::same(trial_script::first(line), b"W") {
-        io::write_all(STDOUT_FILENO, line);
-        io::write_all(STDOUT_FILENO, b"\n");
+        rt.write_all(line)?;
+        rt.write_all(b"\n")?;
         if l.is_cut_off {
-            io::write_all(STDOUT_FILENO, b"the list is too long\n");
-            return;
+            return rt.println("the list is too long");
         }
-        watch(l, rows, trial_script::rest(line));
+        watch(rt, l, rows, trial_script::rest(line))?;
     }
+    Ok(())
 }
 
 // The line that is kept. A line that has no form is no call.
-fn ended(list: List, rows: &mut [[u64; 7 + DIMS]; ROWS], line: &[u8; LINE]) -> List {
+fn ended(
+    rt: &impl Print,
+    list: List,
+    rows: &mut [[u64; 7 + DIMS]; ROWS],
+    line: &[u8; LINE],
+) -> io::Result<List> {
     let mut l = list;
     let whole = front(line, l.len);
     l.len = 0;
     if whole.len() > LINE_MOST {
-        return l;
+        return Ok(l);
     }
     let read = trial_script::read_line(whole);
     match read {
-        Line::Start(s) => started(l, s),
-        Line::Judge(j) => judgement(l, rows, j),
-        Line::Cut(c) => cut(l, rows, c),
-        Line::Report => readings(l, rows),
+        Line::Start(s) => Ok(started(l, s)),
+        Line::Judge(j) => Ok(judgement(l, rows, j)),
+        Line::Cut(c) => Ok(cut(l, rows, c)),
+        Line::Report => Ok(readings(l, rows)),
         Line::Nothing => {
-            watched(l, rows, whole);
-            l
+            watched(rt, l, rows, whole)?;
+            Ok(l)
         }
     }
 }
 
 // The lines that end in a block of the input; what stands behind the last is kept.
 fn block(
+    rt: &impl Print,
     list: List,
     rows: &mut [[u64; 7 + DIMS]; ROWS],
     line: &mut [u8; LINE],
     input: &[u8],
-) -> List {
+) -> io::Result<List> {
     let mut l = list;
     let mut i = 0;
     while i < input.len() {
         let x = input[i];
         if x == FEED {
-            l = ended(l, rows, line);
+            l = ended(rt, l, rows, line)?;
         } else {
             l.len = trial_script::keep(line, l.len, x);
         }
         i += 1;
     }
-    l
+    Ok(l)
 }
 
 // Reads once, and takes the lines that came.
-fn turn(mut l: List, rows: &mut [[u64; 7 + DIMS]; ROWS], line: &mut [u8; LINE]) -> List {
+fn turn(
+    rt: &impl Print,
+    reader: &mut impl Read,
+    mut l: List,
+    rows: &mut [[u64; 7 + DIMS]; ROWS],
+    line: &mut [u8; LINE],
+) -> io::Result<List> {
     let mut input = [0u8; BLOCK];
-    let got = libc::read(STDIN_FILENO, &mut input);
-    let n = io::count(got, &input);
+    let n = reader.read(&mut input)?;
     if n == 0 {
         l.is_over = true;
-        return l;
+        return Ok(l);
     }
-    block(l, rows, line, &input[..n])
+    block(rt, l, rows, line, &input[..n])
 }
 
 // The whole input; a last line without a line end is not taken. Nothing says that an input ends, so the turns are counted
 // down from a number that no run uses up.
-pub fn read(rows: &mut [[u64; 7 + DIMS]; ROWS]) {
+pub fn read(
+    rt: &impl Print,
+    reader: &mut impl Read,
+    rows: &mut [[u64; 7 + DIMS]; ROWS],
+) -> io::Result<()> {
     let mut line = [0u8; LINE];
     let mut l = none();
     let mut turns = u64::MAX;
     while turns > 0 {
-        l = turn(l, rows, &mut line);
+        l = turn(rt, reader, l, rows, &mut line)?;
         if l.is_over {
             break;
         }
         turns -= 1;
     }
+    Ok(())
 }

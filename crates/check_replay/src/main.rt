@@ -10,9 +10,10 @@ mod runs;
 
 use flow::DIMS;
 use list::ROWS;
+use std::io;
 
-fn main() {
+fn main(rt: HostRuntime) -> io::Result<()> {
     let row = [0u64; 7 + DIMS];
     let mut rows = [row; ROWS];
-    list::read(&mut rows);
+    list::read(&rt, &mut rt.stdin(), &mut rows)
 }

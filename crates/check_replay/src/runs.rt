@@ -1,8 +1,8 @@
 // A list through `fair_replay::replay`, from a start over memory of zero bits; what is said of it.
 use fair_replay::Replayed;
 use flow::DIMS;
-use libc::STDOUT_FILENO;
 use sender::Unit;
+use std::io;
 use store::{SourceRow, UnitRow, UseRow};
 use trial::{COUNTED, REPORT, TAGS, UNITS};
 use trial_script::{Amounts, StartLine, front};
@@ -11,28 +11,22 @@ fn of_dims(a: Amounts) -> [u64; DIMS] {
     [a.receptions, a.bytes]
 }
 
-fn say_amounts(word: &[u8], xs: [u64; DIMS]) {
-    io::write_all(STDOUT_FILENO, word);
-    io::write_all(STDOUT_FILENO, b" ");
-    io::print_decimal(STDOUT_FILENO, xs[0]);
-    io::write_all(STDOUT_FILENO, b" ");
-    io::print_decimal(STDOUT_FILENO, xs[1]);
-    io::write_all(STDOUT_FILENO, b"\n");
+fn say_amounts(rt: &impl Print, word: &str, xs: [u64; DIMS]) -> io::Result<()> {
+    println!(rt; "{word} {} {}", xs[0], xs[1])
 }
 
-fn say(r: Replayed) {
+fn say(rt: &impl Print, r: Replayed) -> io::Result<()> {
     let admitted = r.admitted;
     let on_watched = r.admitted_on;
     let handed = r.handed;
-    say_amounts(b"admitted", admitted);
-    say_amounts(b"on-watched", on_watched);
-    say_amounts(b"handed-back", handed);
-    io::write_all(STDOUT_FILENO, b"taken ");
-    io::print_decimal(STDOUT_FILENO, r.taken);
+    say_amounts(rt, "admitted", admitted)?;
+    say_amounts(rt, "on-watched", on_watched)?;
+    say_amounts(rt, "handed-back", handed)?;
+    println!(rt; "taken {}", r.taken)?;
     if r.over_share {
-        io::write_all(STDOUT_FILENO, b"\nover-share yes\n");
+        rt.println("over-share yes")
     } else {
-        io::write_all(STDOUT_FILENO, b"\nover-share no\n");
+        rt.println("over-share no")
     }
 }
 
@@ -50,24 +44,32 @@ fn written(page: &[u8]) -> usize {
 
 // The page as the reports of the list left it, and the report of the state left.
 fn say_reports(
+    rt: &impl Print,
     r: Replayed,
     tags: &[u16],
     units: &[UnitRow],
     uses: &[UseRow],
     counted: &[SourceRow],
     page: &[u8],
-) {
+) -> io::Result<()> {
     let head = r.head;
     let mut own = [0u8; REPORT];
     let text = report::report(head, tags, units, uses, counted, &mut own);
-    io::write_all(STDOUT_FILENO, b"page\n");
-    io::write_all(STDOUT_FILENO, front(page, written(page)));
-    io::write_all(STDOUT_FILENO, b"state\n");
-    io::write_all(STDOUT_FILENO, text);
+    rt.println("page")?;
+    rt.write_all(front(page, written(page)))?;
+    rt.println("state")?;
+    rt.write_all(text)
 }
 
 // The shedder's memory, a start, and the list.
-pub fn run(start: StartLine, list: &[[u64; 7 + DIMS]], watched: Unit, from: usize, to: usize) {
+pub fn run(
+    rt: &impl Print,
+    start: StartLine,
+    list: &[[u64; 7 + DIMS]],
+    watched: Unit,
+    from: usize,
+    to: usize,
+) -> io::Result<()> {
     let mut tags = [0u16; TAGS];
     let unit = [0u64; 7];
     let mut units = [unit; UNITS];
@@ -108,6 +110,6 @@ pub fn run(start: StartLine, list: &[[u64; 7 + DIMS]], watched: Unit, from: usiz
         to,
         &mut page,
     );
-    say(r);
-    say_reports(r, &tags, &units, &uses, &counted, &page);
+    say(rt, r)?;
+    say_reports(rt, r, &tags, &units, &uses, &counted, &page)
 }

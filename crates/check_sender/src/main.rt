@@ -5,12 +5,15 @@
 
 ghost use Rattle.std.specs.Prelude.{◌≡◌, ◌<◌};
 
-use libc::{STDIN_FILENO, STDOUT_FILENO};
 use sender::Words;
+use std::io::{self, Read};
 
 const LINE_FEED: u8 = 10;
 
 const SPACE: u8 = 32;
+
+// The bytes read at once.
+const BLOCK: usize = 4096;
 
 // How many were compared, how many agreed, and the number of the first that did not (0: none).
 #[derive(Clone, Copy)]
@@ -147,16 +150,16 @@ fn step_all(r: Reading, bytes: &[u8]) -> Reading {
     reading
 }
 
-fn read_some(r: Reading) -> Reading {
-    let mut buf = io::buffer();
-    let n = io::read_full(STDIN_FILENO, &mut buf);
+fn read_some(reader: &mut impl Read, r: Reading) -> io::Result<Reading> {
+    let mut buf = [0u8; BLOCK];
+    let n = reader.read(&mut buf)?;
     let mut s = step_all(r, &buf[..n]);
     s.ended = n == 0;
-    s
+    Ok(s)
 }
 
 // Reads to the end of the input; the turns are counted so that the loop is seen to end.
-fn read_list() -> Tally {
+fn read_list(reader: &mut impl Read) -> io::Result<Tally> {
     let mut turns = u64::MAX;
     let mut r = Reading {
         line: blank(),
@@ -164,10 +167,10 @@ fn read_list() -> Tally {
         ended: false,
     };
     while turns > 0 && !r.ended {
-        r = read_some(r);
+        r = read_some(reader, r)?;
         turns -= 1;
     }
-    r.tally
+    Ok(r.tally)
 }
 
 fn vectors() -> Tally {
@@ -186,20 +189,15 @@ fn vectors() -> Tally {
         .with(fnv::fnv1a(b"foobar") == 0x8594_4171_f739_67e8)
 }
 
-fn print(t: Tally, what: &[u8]) {
-    io::print_decimal(STDOUT_FILENO, t.agreed);
-    io::write_all(STDOUT_FILENO, b" of ");
-    io::print_decimal(STDOUT_FILENO, t.seen);
-    io::write_all(STDOUT_FILENO, what);
-    io::write_all(STDOUT_FILENO, b" agree\n");
+fn print(rt: &impl Print, t: Tally, what: &str) -> io::Result<()> {
+    println!(rt; "{} of {} {what} agree", t.agreed, t.seen)?;
     if t.first != 0 {
-        io::write_all(STDOUT_FILENO, b"the first that differs is number ");
-        io::print_decimal(STDOUT_FILENO, t.first);
-        io::write_all(STDOUT_FILENO, b"\n");
+        println!(rt; "the first that differs is number {}", t.first)?;
     }
+    Ok(())
 }
 
-fn main() {
-    print(vectors(), b" vectors");
-    print(read_list(), b" units");
+fn main(rt: HostRuntime) -> io::Result<()> {
+    print(&rt, vectors(), "vectors")?;
+    print(&rt, read_list(&mut rt.stdin())?, "units")
 }

@@ -7,24 +7,25 @@ use crate::says;
 use flow::{Bucket, DIMS, Use};
 use label::LABEL_MOST;
 use sender::{Group, Unit};
+use std::io;
 use trial_script::front;
 
-fn hash(unit: Unit) {
-    says::hexadecimal(sender::hash_of(unit));
-    says::text(b", table ");
-    says::number(sender::table_of(unit) as u64);
-    says::text(b"\n");
+fn hash(rt: &impl Print, unit: Unit) -> io::Result<()> {
+    says::hexadecimal(rt, sender::hash_of(unit))?;
+    says::text(rt, b", table ")?;
+    says::number(rt, sender::table_of(unit) as u64)?;
+    says::text(rt, b"\n")
 }
 
-fn bucket(of: &[u8], want: f64) {
-    says::line_of_number(of, wants::bucket::bucket_of(want) as u64);
+fn bucket(rt: &impl Print, of: &[u8], want: f64) -> io::Result<()> {
+    says::line_of_number(rt, of, wants::bucket::bucket_of(want) as u64)
 }
 
-fn buckets() {
-    bucket(b"bucket of 1: ", 1.0);
-    bucket(b"bucket of 1.5: ", 1.5);
-    bucket(b"bucket of 2: ", 2.0);
-    bucket(b"bucket of 2^48: ", 281474976710656.0);
+fn buckets(rt: &impl Print) -> io::Result<()> {
+    bucket(rt, b"bucket of 1: ", 1.0)?;
+    bucket(rt, b"bucket of 1.5: ", 1.5)?;
+    bucket(rt, b"bucket of 2: ", 2.0)?;
+    bucket(rt, b"bucket of 2^48: ", 281474976710656.0)
 }
 
 // The level of one dimension at rate 10, of two wants.
@@ -53,20 +54,25 @@ fn level_of_none(dim: usize) -> f64
     wants::level(&counts, &sums, dim, 10.0)
 }
 
-fn levels(dim: usize)
+fn levels(rt: &impl Print, dim: usize) -> io::Result<()>
     requires { dim < dims }
 {
-    says::line_of_double(b"rate 10, level of 2, 20: ", level_of_two(dim, 2.0, 20.0));
-    says::line_of_double(b"rate 10, level of 2, 3: ", level_of_two(dim, 2.0, 3.0));
-    says::line_of_double(b"rate 10, level of none: ", level_of_none(dim));
+    says::line_of_double(
+        rt,
+        b"rate 10, level of 2, 20: ",
+        level_of_two(dim, 2.0, 20.0),
+    )?;
+    says::line_of_double(rt, b"rate 10, level of 2, 3: ", level_of_two(dim, 2.0, 3.0))?;
+    says::line_of_double(rt, b"rate 10, level of none: ", level_of_none(dim))
 }
 
-fn all_levels() {
+fn all_levels(rt: &impl Print) -> io::Result<()> {
     let mut d = 0;
     while d < DIMS {
-        levels(d);
+        levels(rt, d)?;
         d += 1;
     }
+    Ok(())
 }
 
 // A counted source: a group's words, and its total as one of its counts.
@@ -75,20 +81,20 @@ fn source(group: u64, total: u64) -> [u64; 8] {
 }
 
 // The totals of the first n sources.
-fn totals(counted: &[[u64; 8]; 5], n: usize) {
+fn totals(rt: &impl Print, counted: &[[u64; 8]; 5], n: usize) -> io::Result<()> {
     let mut i = 0;
     while i < 5 {
         if i < n {
-            says::text(b" ");
-            says::number(cut_sources::total_at(counted, i));
+            says::text(rt, b" ")?;
+            says::number(rt, cut_sources::total_at(counted, i))?;
         }
         i += 1;
     }
-    says::text(b"\n");
+    says::text(rt, b"\n")
 }
 
 // Five sources with these totals, of which four may be kept: how many stay, and their totals.
-fn pruned(t: [u64; 5]) {
+fn pruned(rt: &impl Print, t: [u64; 5]) -> io::Result<()> {
     let mut counted = [
         source(1, t[0]),
         source(2, t[1]),
@@ -98,35 +104,35 @@ fn pruned(t: [u64; 5]) {
     ];
     let mut tags = [0u16; 5];
     let n = cut_sources::pruned(&mut tags, &mut counted, 5);
-    says::number(n as u64);
-    says::text(b" stay:");
-    totals(&counted, n);
+    says::number(rt, n as u64)?;
+    says::text(rt, b" stay:")?;
+    totals(rt, &counted, n)
 }
 
-fn all_pruned() {
-    says::text(b"totals 1, 1, 2, 3, 4, ");
-    pruned([1, 1, 2, 3, 4]);
-    says::text(b"totals 4, 1, 3, 2, 1, ");
-    pruned([4, 1, 3, 2, 1]);
-    says::text(b"totals 7, 7, 7, 7, 7, ");
-    pruned([7, 7, 7, 7, 7]);
+fn all_pruned(rt: &impl Print) -> io::Result<()> {
+    says::text(rt, b"totals 1, 1, 2, 3, 4, ")?;
+    pruned(rt, [1, 1, 2, 3, 4])?;
+    says::text(rt, b"totals 4, 1, 3, 2, 1, ")?;
+    pruned(rt, [4, 1, 3, 2, 1])?;
+    says::text(rt, b"totals 7, 7, 7, 7, 7, ")?;
+    pruned(rt, [7, 7, 7, 7, 7])
 }
 
-fn label(unit: Unit) {
+fn label(rt: &impl Print, unit: Unit) -> io::Result<()> {
     let mut own = [0u8; LABEL_MOST];
     let n = label::write_label(unit, &mut own, 0);
-    says::text(front(&own, n));
-    says::text(b"\n");
+    says::text(rt, front(&own, n))?;
+    says::text(rt, b"\n")
 }
 
-fn fades() {
-    says::line_of_double(b"fade of 0: ", fade::fade(0));
-    says::line_of_double(b"fade of 128000: ", fade::fade(128000));
+fn fades(rt: &impl Print) -> io::Result<()> {
+    says::line_of_double(rt, b"fade of 0: ", fade::fade(0))?;
+    says::line_of_double(rt, b"fade of 128000: ", fade::fade(128000))
 }
 
 // A fresh unit's want at its first judgement: rate and level 10, cost 20, in every dimension. The verdict on it is the first
 // step.
-fn fresh_want() {
+fn fresh_want(rt: &impl Print) -> io::Result<()> {
     let rate = [10.0; DIMS];
     let cost = [20.0; DIMS];
     let tried = Use::new(1000)
@@ -134,22 +140,25 @@ fn fresh_want() {
         .fade_to(1000)
         .tried(cost);
     let attempted = tried.attempted;
-    says::text(b"rate 10, fresh cost 20: tokens ");
-    says::double(Bucket::new(10, 0).tokens);
-    says::text(b", want ");
-    says::double(verdict::want(verdict::weight_of(true, 0), attempted, cost, rate));
+    says::text(rt, b"rate 10, fresh cost 20: tokens ")?;
+    says::double(rt, Bucket::new(10, 0).tokens)?;
+    says::text(rt, b", want ")?;
+    says::double(
+        rt,
+        verdict::want(verdict::weight_of(true, 0), attempted, cost, rate),
+    )
 }
 
-pub fn run() {
-    says::text(b"hash of byte 2: ");
-    hash(Unit::NoAddress);
-    says::text(b"hash of byte 3: ");
-    hash(Unit::Overflow);
-    buckets();
-    all_levels();
-    all_pruned();
-    says::text(b"prefix 20010000: ");
-    label(Unit::Group(Group::V6(0x20010000)));
-    fades();
-    fresh_want();
+pub fn run(rt: &impl Print) -> io::Result<()> {
+    says::text(rt, b"hash of byte 2: ")?;
+    hash(rt, Unit::NoAddress)?;
+    says::text(rt, b"hash of byte 3: ")?;
+    hash(rt, Unit::Overflow)?;
+    buckets(rt)?;
+    all_levels(rt)?;
+    all_pruned(rt)?;
+    says::text(rt, b"prefix 20010000: ")?;
+    label(rt, Unit::Group(Group::V6(0x20010000)))?;
+    fades(rt)?;
+    fresh_want(rt)
 }

@@ -1,29 +1,28 @@
-// What is written to standard output.
-use libc::STDOUT_FILENO;
+// What is written to standard output. A write that fails ends what writes.
+use std::io;
 
-pub fn text(s: &[u8]) {
-    io::write_all(STDOUT_FILENO, s);
+pub fn text(rt: &impl Print, s: &[u8]) -> io::Result<()> {
+    rt.write_all(s)
 }
 
-pub fn number(n: u64) {
-    io::print_decimal(STDOUT_FILENO, n);
+pub fn number(rt: &impl Print, n: u64) -> io::Result<()> {
+    print!(rt; "{n}")
 }
 
-pub fn hexadecimal(n: u64) {
-    io::print_hex(STDOUT_FILENO, n, 16);
+pub fn hexadecimal(rt: &impl Print, n: u64) -> io::Result<()> {
+    print!(rt; "{n:016x}")
 }
 
 // A double that is a whole number, or is infinite; any other only as that.
-pub fn double(x: f64) {
+pub fn double(rt: &impl Print, x: f64) -> io::Result<()> {
     if x == 1.0 / 0.0 {
-        text(b"infinite");
-        return;
+        return text(rt, b"infinite");
     }
     let n = whole_part(x);
     if std::num::nearest_u64_to_f64(n) == x {
-        number(n);
+        number(rt, n)
     } else {
-        text(b"no whole number");
+        text(rt, b"no whole number")
     }
 }
 
@@ -36,30 +35,30 @@ fn whole_part(x: f64) -> u64 {
     0
 }
 
-pub fn line_of_number(what: &[u8], n: u64) {
-    text(what);
-    number(n);
-    text(b"\n");
+pub fn line_of_number(rt: &impl Print, what: &[u8], n: u64) -> io::Result<()> {
+    text(rt, what)?;
+    number(rt, n)?;
+    text(rt, b"\n")
 }
 
-pub fn line_of_double(what: &[u8], x: f64) {
-    text(what);
-    double(x);
-    text(b"\n");
+pub fn line_of_double(rt: &impl Print, what: &[u8], x: f64) -> io::Result<()> {
+    text(rt, what)?;
+    double(rt, x)?;
+    text(rt, b"\n")
 }
 
 // What came of a call, by its number.
-pub fn outcome(number: u64) {
+pub fn outcome(rt: &impl Print, number: u64) -> io::Result<()> {
     match number {
-        0 => text(b"started"),
-        10 => text(b"ok"),
-        11 => text(b"over-share"),
-        12 => text(b"relay-rate"),
-        _ => refused(number),
+        0 => text(rt, b"started"),
+        10 => text(rt, b"ok"),
+        11 => text(rt, b"over-share"),
+        12 => text(rt, b"relay-rate"),
+        _ => refused(rt, number),
     }
 }
 
-fn refused(n: u64) {
-    text(b"refused ");
-    number(n);
+fn refused(rt: &impl Print, n: u64) -> io::Result<()> {
+    text(rt, b"refused ")?;
+    number(rt, n)
 }

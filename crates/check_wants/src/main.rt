@@ -6,7 +6,7 @@
 ghost use Rattle.std.specs.Prelude.{◌<◌};
 
 use flow::DIMS;
-use libc::{STDIN_FILENO, STDOUT_FILENO};
+use std::io::{self, Read};
 use wants::{BUCKETS, Counts, Sums};
 
 const SIGN: u64 = 9223372036854775808;
@@ -16,6 +16,9 @@ const INFINITE: u64 = 9218868437227405312;
 const NAN: u64 = 9221120237041090560;
 // The largest number that has room for one decimal digit more.
 const ROOM: u64 = 1844674407370955160;
+
+// The bytes read at once.
+const BLOCK: usize = 65536;
 
 // The line so far, and what the lines before it came to. `differs` is the number of the first line that does not agree, 0 while all do.
 #[derive(Clone, Copy)]
@@ -183,35 +186,31 @@ fn run(replay: Replay, bytes: &[u8], counts: &mut Counts, sums: &mut Sums) -> Re
     now_at
 }
 
-fn report(replay: Replay) {
+fn report(rt: &impl Print, replay: Replay) -> io::Result<()> {
     if replay.differs == 0 {
-        io::print_decimal(STDOUT_FILENO, replay.buckets);
-        io::write_all(STDOUT_FILENO, b" buckets agree\n");
-        io::print_decimal(STDOUT_FILENO, replay.levels);
-        io::write_all(STDOUT_FILENO, b" levels agree\n");
+        println!(rt; "{} buckets agree", replay.buckets)?;
+        println!(rt; "{} levels agree", replay.levels)
     } else {
-        io::write_all(STDOUT_FILENO, b"line ");
-        io::print_decimal(STDOUT_FILENO, replay.differs);
-        io::write_all(STDOUT_FILENO, b" differs\n");
+        println!(rt; "line {} differs", replay.differs)
     }
 }
 
-fn main() {
+fn main(rt: HostRuntime) -> io::Result<()> {
     let none = [0u32; BUCKETS];
     let mut counts = [none; DIMS];
     let nothing = [0.0f64; BUCKETS];
     let mut sums = [nothing; DIMS];
-    let mut buffer = io::large_buffer();
+    let mut buffer = [0u8; BLOCK];
     let mut replay = Replay::new();
-    // A loop that is proved has to end, so it counts its turns down, from more than the list needs.
-    let mut turns = 1000u64;
+    // A loop that is proved has to end, so it counts its turns down, from more than any list needs.
+    let mut turns = u64::MAX;
     while turns > 0 {
-        let n = io::read_full(STDIN_FILENO, &mut buffer);
+        let n = rt.stdin().read(&mut buffer)?;
         if n == 0 {
             break;
         }
         replay = run(replay, &buffer[..n], &mut counts, &mut sums);
         turns -= 1;
     }
-    report(replay);
+    report(&rt, replay)
 }

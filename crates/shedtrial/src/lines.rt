@@ -1,6 +1,6 @@
 // Standard input cut into lines, and the answers written to standard output.
 use flow::DIMS;
-use libc::{STDERR_FILENO, STDIN_FILENO, STDOUT_FILENO};
+use std::io::Read;
 use trial::{COUNTED, TAGS, Trial, UNITS};
 use trial_script::{FEED, LINE, front};
 use wants::{BUCKETS, Counts, Sums};
@@ -22,8 +22,8 @@ struct Served {
 }
 
 // Says on standard error why the program stops.
-fn broken(trial: Trial, why: &[u8]) -> Served {
-    io::write_all(STDERR_FILENO, why);
+fn broken(rt: &impl Eprint, trial: Trial, why: &str) -> Served {
+    let _ = rt.eprintln(why);
     Served {
         trial,
         len: 0,
@@ -33,11 +33,11 @@ fn broken(trial: Trial, why: &[u8]) -> Served {
 }
 
 // Writes the answers that stand on the page, and empties it. Once input or output failed, answers are dropped.
-fn written(s: Served, page: &[u8]) -> Served {
+fn written(rt: &(impl Print + Eprint), s: Served, page: &[u8]) -> Served {
     let mut t = s.trial;
     let n = t.at;
     t.at = 0;
-    if s.is_broken || io::write_all(STDOUT_FILENO, front(page, n)) {
+    if s.is_broken || rt.write_all(front(page, n)).is_ok() {
         return Served {
             trial: t,
             len: s.len,
@@ -46,13 +46,15 @@ fn written(s: Served, page: &[u8]) -> Served {
         };
     }
     broken(
+        rt,
         t,
-        b"shedtrial: standard output cannot be written, answers are lost\n",
+        "shedtrial: standard output cannot be written, answers are lost",
     )
 }
 
 // Answers the line that is kept.
 fn ended(
+    rt: &(impl Print + Eprint),
     s: Served,
     tags: &mut [u16; TAGS],
     units: &mut [[u64; 7]; UNITS],
@@ -75,11 +77,12 @@ fn ended(
     if a.at < FULL {
         return answered;
     }
-    written(answered, page)
+    written(rt, answered, page)
 }
 
 // Answers each line that ends in a block of the input, and keeps what stands behind the last.
 fn block(
+    rt: &(impl Print + Eprint),
     served: Served,
     tags: &mut [u16; TAGS],
     units: &mut [[u64; 7]; UNITS],
@@ -96,7 +99,7 @@ fn block(
     while i < input.len() {
         let x = input[i];
         if x == FEED {
-            s = ended(s, tags, units, uses, counts, sums, counted, line, page);
+            s = ended(rt, s, tags, units, uses, counts, sums, counted, line, page);
         } else {
             s.len = trial_script::keep(line, s.len, x);
         }
@@ -107,6 +110,8 @@ fn block(
 
 // Reads once, and answers the lines that came: whoever waits for the answers has them before the next read.
 fn turn(
+    rt: &(impl Print + Eprint),
+    reader: &mut impl Read,
     mut s: Served,
     tags: &mut [u16; TAGS],
     units: &mut [[u64; 7]; UNITS],
@@ -118,17 +123,16 @@ fn turn(
     page: &mut [u8; BLOCK],
 ) -> Served {
     let mut input = [0u8; BLOCK];
-    let got = libc::read(STDIN_FILENO, &mut input);
-    if got < 0 {
+    let Ok(n) = reader.read(&mut input) else {
         let t = s.trial;
-        return broken(t, b"shedtrial: standard input cannot be read\n");
-    }
-    let n = io::count(got, &input);
+        return broken(rt, t, "shedtrial: standard input cannot be read");
+    };
     if n == 0 {
         s.is_over = true;
         return s;
     }
     let answered = block(
+        rt,
         s,
         tags,
         units,
@@ -140,11 +144,12 @@ fn turn(
         page,
         &input[..n],
     );
-    written(answered, page)
+    written(rt, answered, page)
 }
 
 // Answers a last line that has no line end.
 fn finish(
+    rt: &(impl Print + Eprint),
     s: Served,
     tags: &mut [u16; TAGS],
     units: &mut [[u64; 7]; UNITS],
@@ -158,12 +163,12 @@ fn finish(
     if s.len == 0 {
         return;
     }
-    let e = ended(s, tags, units, uses, counts, sums, counted, line, page);
-    written(e, page);
+    let e = ended(rt, s, tags, units, uses, counts, sums, counted, line, page);
+    written(rt, e, page);
 }
 
 // The whole input. Nothing says that an input ends, so the turns are counted down from a number that no run uses up.
-pub fn serve() {
+pub fn serve(rt: &(impl Print + Eprint), reader: &mut impl Read) {
     let mut tags = [0u16; TAGS];
     let unit = [0u64; 7];
     let mut units = [unit; UNITS];
@@ -186,6 +191,8 @@ pub fn serve() {
     let mut turns = u64::MAX;
     while turns > 0 {
         s = turn(
+            rt,
+            reader,
             s,
             &mut tags,
             &mut units,
@@ -202,6 +209,7 @@ pub fn serve() {
         turns -= 1;
     }
     finish(
+        rt,
         s,
         &mut tags,
         &mut units,

@@ -3,6 +3,6 @@
 
 mod lines;
 
-fn main() {
-    lines::serve();
+fn main(rt: HostRuntime) {
+    lines::serve(&rt, &mut rt.stdin());
 }

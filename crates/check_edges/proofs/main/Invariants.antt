@@ -1,5 +1,5 @@
 -- `main` is safe and ends. Assumes nothing.
-use Prim.Native.Nat.{◌≤◌, ◌-◌}
+use Rattle.std.proofs.Common.{◌-◌, ◌≤◌}
 use Rattle.check_edges.proofs.main.Given as goal
 
 abbrev pub invariant-loop-i : goal.invariant-loop-i

@@ -1,5 +1,5 @@
 -- `list::readings` is safe and ends. The measure is how many calls are left.
-use Prim.Native.Nat.{◌-◌, ◌≤◌}
+use Rattle.std.proofs.Common.{◌-◌, ◌≤◌}
 use Rattle.check_replay.proofs.list.readings.Given as goal
 
 abbrev pub invariant-loop-which : goal.invariant-loop-which

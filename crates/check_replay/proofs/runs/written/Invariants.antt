@@ -1,6 +1,5 @@
 -- `runs::written` is safe and ends. The measure is what is left of the page.
-use Prim.Native.Nat.{◌-◌, ◌≤◌}
-use lib.ListN.{length}
+use Rattle.std.proofs.Common.{◌-◌, ◌≤◌, length}
 use Rattle.check_replay.proofs.runs.written.Given as goal
 
 abbrev pub invariant-loop-i : goal.invariant-loop-i

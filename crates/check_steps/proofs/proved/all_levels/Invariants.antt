@@ -4,7 +4,7 @@ use Rattle.flow.specs.Flow.{dims}
 use Rattle.check_steps.proofs.proved.all_levels.Given as goal
 
 abbrev pub invariant-loop-d : goal.invariant-loop-d
-invariant-loop-d l = l.d ≤ dims
+invariant-loop-d g l = l.d ≤ dims
 
 abbrev pub decreases-loop-d : goal.decreases-loop-d
-decreases-loop-d l = dims - l.d
+decreases-loop-d g l = dims - l.d

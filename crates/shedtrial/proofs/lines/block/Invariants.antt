@@ -1,10 +1,9 @@
 -- `lines::block` is safe and ends. The measure is what is left of the input.
-use Prim.Native.Nat.{◌-◌, ◌≤◌}
-use lib.ListN.{length}
+use Rattle.std.proofs.Common.{◌-◌, ◌≤◌, length}
 use Rattle.shedtrial.proofs.lines.block.Given as goal
 
 abbrev pub invariant-loop-i : goal.invariant-loop-i
-invariant-loop-i l = l.i ≤ length l.input
+invariant-loop-i g l = l.i ≤ length l.input
 
 abbrev pub decreases-loop-i : goal.decreases-loop-i
-decreases-loop-i l = length l.input - l.i
+decreases-loop-i g l = length l.input - l.i
