@@ -104,7 +104,7 @@ module _ (room : ℕ) (rate : List ℕ) where
 
     on_bound : goal.is_unbounded h.flow.rate ≡ false → (c : Cause)
         → Bound room rate (cut_on h m u c cost).head (cut_on h m u c cost).rows (model.step Name same shares room st clk (cut_call c u cost)) clk
-    unfolding goal.hands_back goal.bounds_of
+    unfolding goal.hands_back goal.index_of
     on_bound f cause.ReceiverCeiling = rw f handed_bound
     on_bound f cause.OverShare = rw f b
     on_bound f cause.RelayRate = rw f b
@@ -158,7 +158,7 @@ module _ (room : ℕ) (rate : List ℕ) (rates : goal.all_rates rate ≡ true) (
   cut_after =
       let s = cut_on h m.rows u c cost in
       subst (λ (j : goal.Cut). Bound room rate j.head j.rows (model.step Name same shares room st h.flow.at_ms (cut_call room rate c u cost)) h.flow.at_ms) (sym took.is)
-      (judging.tallied_bound room rate s.head m.counted (sender.name_of u) (goal.bounds_of c) (get_or cost 0 0) s.rows _ h.flow.at_ms
+      (judging.tallied_bound room rate s.head m.counted (sender.name_of u) (goal.index_of c) (get_or cost 0 0) s.rows _ h.flow.at_ms
       (on_bound room rate h m.rows st cut_bound u cost (ap goal.is_unbounded b.rate_is ∙ not_unbounded rate rates) c))
 
   pub cut_tied : Tied room rate (goal.cut h m.rows m.counted u c cost).head (goal.cut h m.rows m.counted u c cost).rows (model.step Name same shares room st h.flow.at_ms (cut_call room rate c u cost)) h.flow.at_ms

@@ -126,7 +126,7 @@ bounded_span h m u cost t =
 
 pub after_span : (s : goal.KeptBy) (k : List (List ℕ)) (u : unit.Unit) (c : Cause) (cost : List ℕ) → length (goal.cut_after k u c cost s).rows.tags ≡ length s.rows.tags
 unfolding goal.noted
-after_span s k u c cost = tallied_span s.head s.rows.tags k (sender.name_of u) (goal.bounds_of c) (get_or cost 0 0)
+after_span s k u c cost = tallied_span s.head s.rows.tags k (sender.name_of u) (goal.index_of c) (get_or cost 0 0)
 
 pub on_span : (b : Bool) (h : Shedder) (m : Rows) (u : unit.Unit) (cost : List Float) → length (cond b (goal.handed_back (goal.kept_by h m) u cost) (goal.kept_by h m)).rows.tags ≡ length m.tags
 on_span true h m u cost = handed_span h m u cost

@@ -199,4 +199,4 @@ module _ (size : ℕ) where
 
   pub noted_lasts : (h : Shedder) (i : List ℕ) (k : List (List ℕ)) (u : unit.Unit) (c : Cause) (cost : List ℕ) (clk : ℕ) → Lasts h k clk → Lasts (goal.noted (goal.tally h i k) (sender.name_of u) c cost).head (goal.noted (goal.tally h i k) (sender.name_of u) c cost).counted clk
   unfolding goal.noted
-  noted_lasts h i k u c cost clk b = let q = tallied_fine h i k (sender.name_of u) (goal.bounds_of c) (get_or cost 0 0) clk b.fine b.long in record { fine = q.fine; long = q.long }
+  noted_lasts h i k u c cost clk b = let q = tallied_fine h i k (sender.name_of u) (goal.index_of c) (get_or cost 0 0) clk b.fine b.long in record { fine = q.fine; long = q.long }

@@ -1,5 +1,5 @@
 -- `report` meets its contract.
-use native.Mathlib.Omega.{arith}
+use borrow.Author.Rules.{rules}
 use borrow.Author.Tests.{not-true, not-false}
 use Rattle.store.specs.Store.{rows}
 use Rattle.judge.specs.Judging.{memory}
@@ -17,12 +17,12 @@ pub returns-then-no-ne0 : goal.returns-then-no-ne0
 returns-then-no-ne0 c =
     λ g. report_refused (state c.args.t (memory (rows c.args.tags.now c.args.units.now c.args.uses.now) g c.args.counted.now) c.args.out.now) _ _ _
     (not-false c.args.t.is_started c.if-not-t.false) c.report_refusal-no.ensures
-    (omega (arith, slice-aggregate-report-refusal c)) c.if-no-ne0.true
+    (search rules) c.if-no-ne0.true
     (c.refused-then-no-ne0.ensures (memory (rows c.args.tags.now c.args.units.now c.args.uses.now) g c.args.counted.now))
 
 pub returns : goal.returns
 returns c =
     λ g. report_step (state c.args.t (memory (rows c.args.tags.now c.args.units.now c.args.uses.now) g c.args.counted.now) c.args.out.now) _ _ _ _ _
     (not-false c.args.t.is_started c.if-not-t.false) c.report_refusal-no.ensures
-    (omega (arith, slice-aggregate-report-refusal c)) (omega (arith, slice-aggregate-report c)) c.if-no-ne0.false
+    (search rules) (search rules) c.if-no-ne0.false
     c.report-front.ensures c.put.ensures
