@@ -1,4 +1,6 @@
 use borrow.Author.Tests.{eq-eqb, ne_eqb}
+use Rattle.wants.specs.Wants.{hist}
+use Rattle.fair_row.specs.Replay.{held}
 use Rattle.fair_row.proofs.Turning.{judge_turn, cut_turn, read_turn}
 use Rattle.fair_row.proofs.turn.Goals as goal
 
@@ -15,8 +17,10 @@ returns-then-which-eq1 c = let all_of_them = cut_turn _ _ _ _ c.cut_row.result _
 }
 
 pub returns : goal.returns
-returns c = let all_of_them = read_turn _ _ _ _ c.turned_by_reading.result _ _ (ne_eqb _ 0 c.if-which-eq0.false) (ne_eqb _ 1 c.if-which-eq1.false)
-    (c.turned_by_reading.ensures.turns _ _ _ (c.read_row-number.ensures.value _)) (c.read_row-number.ensures.out_after _) in record {
-      turns = all_of_them.0;
-      out_after = all_of_them.1;
-    }
+returns c =
+    let a = c.args in
+    let g = hist a.counts.now a.sums.now in
+    let s = held a.head a.tags.now a.units.now a.uses.now a.counts.now a.sums.now a.counted.now in
+    let all_of_them = read_turn _ s _ _ c.turned_by_reading.result _ _ (ne_eqb _ 0 c.if-which-eq0.false) (ne_eqb _ 1 c.if-which-eq1.false)
+    (c.turned_by_reading.ensures.turns _ _ _ (c.read_row-number.ensures.value g)) (c.read_row-number.ensures.out_after g) in
+    record { turns = all_of_them.0; out_after = all_of_them.1 }
