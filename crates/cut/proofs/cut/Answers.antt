@@ -33,7 +33,7 @@ handed_back-h-requires c = let w = cut_ready c.args.head _ _ _ _ c.args.cost (sy
 
 pub noted-requires : goal.noted-requires
 noted-requires c = let w = cut_ready c.args.head _ _ _ _ c.args.cost (sym c.cut_asked-no.ensures ∙ c.if-no-ne0.false) in record {
-  counted_in_bounds = sum_within c.handed_back-h.ensures.unit_room_value c.handed_back-h.ensures.counted_value w.counted_held w.tags_room c.handed_back-h.auto.units;
+  counted_in_bounds = sum_within c.handed_back-h.ensures.unit_room_value c.handed_back-h.ensures.counted_value w.counted_held w.tags_room c.handed_back-h.auto.tags;
   counted_in_bounds_2 = lt_by c.handed_back-h.ensures.counted_value w.counted_held;
 }
 

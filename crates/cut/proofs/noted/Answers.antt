@@ -6,6 +6,6 @@ use Rattle.cut.proofs.noted.Goals as goal
 pub returns : goal.returns
 unfolding cut_number
 returns c = record {
-  counted_after = noted_is _ c.args.name c.args.cause c.args.t6 c.index_of.result c.tallied-t.result _ _ c.index_of.ensures.value c.tallied-t.ensures.counted_after;
+  counted_after = noted_is _ c.args.name c.args.cause c.args.cost c.index_of.result c.tallied-t.result _ _ c.index_of.ensures.value c.tallied-t.ensures.counted_after;
   answer_value = refl;
 }

@@ -19,30 +19,30 @@ judged-p-requires c = record {
 
 pub count_verdict-t-requires : goal.count_verdict-t-requires
 count_verdict-t-requires c = record {
-  counted_in_bounds = sum_within c.judged-p.ensures.unit_room_value c.judged-p.ensures.counted_value c.requires.ready.counted_held c.requires.ready.tags_room c.judged-p.auto.units;
+  counted_in_bounds = sum_within c.judged-p.ensures.unit_room_value c.judged-p.ensures.counted_value c.requires.ready.counted_held c.requires.ready.tags_room c.judged-p.auto.tags;
   counted_in_bounds_2 = lt_by c.judged-p.ensures.counted_value c.requires.ready.counted_held;
 }
 
 pub scanned-s-requires : goal.scanned-s-requires
 scanned-s-requires c = record {
-  tracked_in_bounds = le_by c.count_verdict-t.ensures.tracked_value (le_within _ c.judged-p.ensures.tracked_bound_2 (c.count_verdict-t.auto.counted ∙ c.judged-p.auto.units ∙ c.requires.ready.tags_room));
-  tracked_in_bounds_2 = le_by c.count_verdict-t.ensures.tracked_value (le_to c.judged-p.ensures.tracked_bound_2 (c.judged-p.auto.uses ∙ c.requires.ready.units_room));
-  tracked_in_bounds_3 = le_by c.count_verdict-t.ensures.tracked_value (le_to c.judged-p.ensures.tracked_bound_2 (c.judged-p.auto.1.1.1.0 ∙ c.requires.ready.uses_room));
+  tracked_in_bounds = le_by c.count_verdict-t.ensures.tracked_value (le_within _ c.judged-p.ensures.tracked_bound_2 (c.count_verdict-t.auto.counted ∙ c.judged-p.auto.tags ∙ c.requires.ready.tags_room));
+  tracked_in_bounds_2 = le_by c.count_verdict-t.ensures.tracked_value (le_to c.judged-p.ensures.tracked_bound_2 (c.judged-p.auto.units ∙ c.requires.ready.units_room));
+  tracked_in_bounds_3 = le_by c.count_verdict-t.ensures.tracked_value (le_to c.judged-p.ensures.tracked_bound_2 (c.judged-p.auto.uses ∙ c.requires.ready.uses_room));
   began_ms_bound = lt_by (ap (λ (s : Scan). s.began_ms) (c.count_verdict-t.ensures.scan_value ∙ c.judged-p.ensures.scan_value)) c.requires.ready.began_held;
   next_bound = le_by (ap (λ (s : Scan). s.remaining + s.next) (c.count_verdict-t.ensures.scan_value ∙ c.judged-p.ensures.scan_value)) c.requires.ready.tables_held;
 }
 
 pub shape_of-tags : goal.shape_of-tags
 shape_of-tags c =
-    c.scanned-s.auto.units ∙ c.count_verdict-t.auto.counted ∙ c.judged-p.auto.units
+    c.scanned-s.auto.tags ∙ c.count_verdict-t.auto.counted ∙ c.judged-p.auto.tags
 
 pub shape_of-units : goal.shape_of-units
 shape_of-units c =
-    c.scanned-s.auto.uses ∙ c.judged-p.auto.uses
+    c.scanned-s.auto.units ∙ c.judged-p.auto.units
 
 pub shape_of-uses : goal.shape_of-uses
 shape_of-uses c =
-    c.scanned-s.auto.1.1.1.0 ∙ c.judged-p.auto.1.1.1.0
+    c.scanned-s.auto.uses ∙ c.judged-p.auto.uses
 
 pub returns : goal.returns
 returns c = record {

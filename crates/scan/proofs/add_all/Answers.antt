@@ -11,7 +11,7 @@ loop-d-init c = (search rules, sym (adds_none _ _))
 pub loop-d-preserved : goal.loop-d-preserved
 loop-d-preserved c = (
   search rules,
-  c.add.ensures ∙ ap (λ (g : Hist). wants.added g c.loop-d.d (at c.args.t3 c.loop-d.d)) c.loop-d.invariant.1
+  c.add.ensures ∙ ap (λ (g : Hist). wants.added g c.loop-d.d (at c.args.want c.loop-d.d)) c.loop-d.invariant.1
       ∙ sym (adds_next _ _ _),
 )
 

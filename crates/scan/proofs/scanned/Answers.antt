@@ -9,23 +9,23 @@ returns-then-is_idle c = scanned_idle _ _ _ _ (sym c.is_idle.ensures ∙ c.if-is
 
 pub again-w-requires : goal.again-w-requires
 again-w-requires c = record {
-  tracked_in_bounds = held_on c.visit-v.ensures.tracked_le_tracked c.begun-b.ensures.tracked_value c.requires.tracked_in_bounds c.visit-v.auto.units;
-  tracked_in_bounds_2 = held_on c.visit-v.ensures.tracked_le_tracked c.begun-b.ensures.tracked_value c.requires.tracked_in_bounds_2 c.visit-v.auto.uses;
-  tracked_in_bounds_3 = held_on c.visit-v.ensures.tracked_le_tracked c.begun-b.ensures.tracked_value c.requires.tracked_in_bounds_3 c.visit-v.auto.1.1.1.0;
+  tracked_in_bounds = held_on c.visit-v.ensures.tracked_le_tracked c.begun-b.ensures.tracked_value c.requires.tracked_in_bounds c.visit-v.auto.tags;
+  tracked_in_bounds_2 = held_on c.visit-v.ensures.tracked_le_tracked c.begun-b.ensures.tracked_value c.requires.tracked_in_bounds_2 c.visit-v.auto.units;
+  tracked_in_bounds_3 = held_on c.visit-v.ensures.tracked_le_tracked c.begun-b.ensures.tracked_value c.requires.tracked_in_bounds_3 c.visit-v.auto.uses;
   next_bound = c.visit-v.ensures.next_bound_2;
 }
 
 pub shape_of-tags-then-s-ge1 : goal.shape_of-tags-then-s-ge1
 shape_of-tags-then-s-ge1 c =
-    c.again-w.auto.units ∙ c.visit-v.auto.units
+    c.again-w.auto.tags ∙ c.visit-v.auto.tags
 
 pub shape_of-units-then-s-ge1 : goal.shape_of-units-then-s-ge1
 shape_of-units-then-s-ge1 c =
-    c.again-w.auto.uses ∙ c.visit-v.auto.uses
+    c.again-w.auto.units ∙ c.visit-v.auto.units
 
 pub shape_of-uses-then-s-ge1 : goal.shape_of-uses-then-s-ge1
 shape_of-uses-then-s-ge1 c =
-    c.again-w.auto.1.1.1.0 ∙ c.visit-v.auto.1.1.1.0
+    c.again-w.auto.uses ∙ c.visit-v.auto.uses
 
 pub returns-then-s-ge1 : goal.returns-then-s-ge1
 returns-then-s-ge1 c =
