@@ -9,7 +9,7 @@ returns-then-counts c =
       admitted = simp (e, c.sums-admits.ensures);
       admitted_on = simp (e, c.sums-admits_on.ensures);
       handed = simp (e, c.sums-hands.ensures);
-      c = simp (e, c.wrapping_add_u64-taken.ensures.value);
+      taken = simp (e, c.wrapping_add_u64-taken.ensures.value);
       over_share = simp e;
     }
 

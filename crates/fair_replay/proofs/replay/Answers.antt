@@ -16,16 +16,15 @@ loop-i-smaller c =
 pub loop-i-preserved : goal.loop-i-preserved
 loop-i-preserved c =
     let inv = c.loop-i.invariant in
-    let kept = c.turn-turned.auto.1 in
-    let more = kept.1.1.1.1.1 in (
+    let kept = c.turn-turned.auto in (
       omega (arith, c.loop-i-test.true),
       inv.1,
       ran_next _ _ _ _ _ _ _ _ _ _ _ _ _ inv.2 c.turn-turned.ensures.turns c.after-run.ensures c.turn-turned.ensures.out_after,
-      kept.0 ∙ inv.3,
-      kept.1.0 ∙ inv.4,
-      kept.1.1.0 ∙ inv.5,
-      more.0 ∙ inv.6,
-      more.1.1.1.0 ∙ inv.7,
+      kept.tags ∙ inv.3,
+      kept.units ∙ inv.4,
+      kept.uses ∙ inv.5,
+      kept.counted ∙ inv.6,
+      kept.out ∙ inv.7,
     )
 
 pub shape_of-tags : goal.shape_of-tags
