@@ -21,6 +21,11 @@ second-of start-same tables-is there-same walk-next
 """.split())
 TYPES = {"Same-but-nan-bits": "SameButNanBits"}
 OTHERS = {"label-parse": "label_parse_lem"}  # label_parse is a crate
+# names that are bound by 'as', 'let' or a binder, and declared by no signature
+ALSO = """
+as-page at-begin at-visit below-a below-b ends-a ends-b kept-tags lent-stale level-reads new-use no-credit no-reserve rate-reads
+rule-kind sender-name visited-tables want-or-mark
+""".split()
 # in these files the first name is a family of types
 IN_FILES = {"fair/proofs/Entry.antt": {"wide_of": "WideOf"}}
 
@@ -90,7 +95,7 @@ def words(text):
 
 
 def main(root):
-    names = {n: n.replace("-", "_") for n in declared(root) if n not in KEPT} | TYPES | OTHERS
+    names = {n: n.replace("-", "_") for n in declared(root).union(ALSO) if n not in KEPT} | TYPES | OTHERS
     together, changed = [], {}
     for ending, turn in ((".antt", turn_antt), (".rt", turn_rt)):
         for path in files(root, ending):

@@ -32,8 +32,8 @@ abbrev pub by_side : Side → (within over : ℕ) → ℕ
 by_side side.Within within over = within
 by_side side.Over within over = over
 
-abbrev pub coded : Answer → (rule dim : ℕ) (want-or-mark part : Float) → Decision
-coded a rule dim want-or-mark part = record { refusal = judge_number a; verdict = verdict_code a; rule = rule; dim = dim; want_or_mark = want-or-mark; part = part }
+abbrev pub coded : Answer → (rule dim : ℕ) (want_or_mark part : Float) → Decision
+coded a rule dim want_or_mark part = record { refusal = judge_number a; verdict = verdict_code a; rule = rule; dim = dim; want_or_mark = want_or_mark; part = part }
 
 -- 1 admitted, with the want; credit 2 within the level, 3 over it; tokens 4 and 5; 6 the reserve, with the mark and the part of the burst. A double that the rule does not have is 0
 unfoldable pub ruled : Answer → Rule → Decision

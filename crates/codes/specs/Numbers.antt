@@ -10,9 +10,9 @@ use Rattle.head.specs.declared.Cause.TheVariants as cause
 use Rattle.head.specs.declared.Reading.{Reading}
 use Rattle.head.specs.declared.Reading.TheVariants as reading
 use Rattle.head.specs.declared.LevelRead.{LevelRead}
-use Rattle.head.specs.declared.LevelRead.TheVariants as level-reads
+use Rattle.head.specs.declared.LevelRead.TheVariants as level_reads
 use Rattle.head.specs.declared.RateRead.{RateRead}
-use Rattle.head.specs.declared.RateRead.TheVariants as rate-reads
+use Rattle.head.specs.declared.RateRead.TheVariants as rate_reads
 use Rattle.head.specs.declared.BoundedRead.{BoundedRead}
 use Rattle.head.specs.declared.BoundedRead.TheVariants as bounded_reads
 use Rattle.head.specs.declared.Written.{Written}
@@ -37,14 +37,14 @@ read_count (reading.Whole x) = count 0 x
 read_count (reading.Refused n) = count n 0
 
 unfoldable pub read_level : LevelRead → Level
-read_level (level-reads.Level x) = record { refusal = 0; value = x }
-read_level (level-reads.Refused n) = record { refusal = n; value = of_bits binary64 0 }
+read_level (level_reads.Level x) = record { refusal = 0; value = x }
+read_level (level_reads.Refused n) = record { refusal = n; value = of_bits binary64 0 }
 
 -- no limit is the number that a start takes for it
 unfoldable pub read_rate : RateRead → Count
-read_rate rate-reads.Unbounded = count 0 «UNBOUNDED»
-read_rate (rate-reads.PerSecond x) = count 0 x
-read_rate (rate-reads.Refused n) = count n 0
+read_rate rate_reads.Unbounded = count 0 «UNBOUNDED»
+read_rate (rate_reads.PerSecond x) = count 0 x
+read_rate (rate_reads.Refused n) = count n 0
 
 -- 1 for a bounded relay
 unfoldable pub read_bounded : BoundedRead → Count

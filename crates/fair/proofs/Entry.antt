@@ -15,7 +15,7 @@ use Rattle.flow.specs.Flow as flow
 use Rattle.flow.specs.Flow.{dims}
 use Rattle.flow.specs.declared.Bucket.{Bucket}
 use Rattle.flow.specs.declared.Use.{Use}
-use Rattle.sender.specs.declared.Name as sender-name
+use Rattle.sender.specs.declared.Name as sender_name
 use Rattle.sender.specs.declared.Unit as unit
 use Rattle.sender.specs.Sender as sender
 use Rattle.store.proofs.Places.{added_other}
@@ -58,11 +58,11 @@ put_wide m n i x hu wide l j h = elim (ℕ_discrete j i) [
   | no q ↦ ap (λ (r : List ℕ). length r) (get_or-set_other m.units i j _ [] q) ∙ wide j h
 ]
 
-added_long : (m : Rows) (i : ℕ) (w : sender-name.Name) (x : Use) → Long (store.added m i w x) m
+added_long : (m : Rows) (i : ℕ) (w : sender_name.Name) (x : Use) → Long (store.added m i w x) m
 unfolding store.added
 added_long m i w x = record { tags = length-set m.tags i _; units = length-set m.units i _; uses = length-set m.uses i _ }
 
-added_wide : (m : Rows) (n : ℕ) (w : sender-name.Name) (x : Use) → n < length m.units → Wide 7 m n → Wide 7 (store.added m n w x) (n + 1)
+added_wide : (m : Rows) (n : ℕ) (w : sender_name.Name) (x : Use) → n < length m.units → Wide 7 m n → Wide 7 (store.added m n w x) (n + 1)
 unfolding Wide store.added
 added_wide m n w x hu wide j h = elim (ℕ_discrete j n) [
   | yes q ↦ ap (λ (k : ℕ). length (get_or (set m.units n (w.words.kind ∷ w.words.a ∷ w.words.b ∷ w.words.c ∷ w.words.d ∷ x.at_ms ∷ x.fresh ∷ [])) k [])) q ∙ ap (λ (r : List ℕ). length r) (get_or-set_same m.units n _ [] hu)
@@ -117,7 +117,7 @@ module _ (room : ℕ) where
           (goal.put_back e.rows.units e.rows.uses o e.place.at x).overflow
 
   module _ (b : ℕ → Bucket) (m : Rows) (n : ℕ) (o : Use) (ho : Whole o) (hold : Held m n) (u : unit.Unit) (now : ℕ) where
-    abbrev w : sender-name.Name
+    abbrev w : sender_name.Name
     w = sender.name_of u
 
     abbrev i : ℕ

@@ -8,7 +8,7 @@ use lib.Dec.{ltb}
 use lib.ListN.{length}
 use borrow.Author.Tests.{ltb-true, lt-ltb, le-ltb}
 use Rattle.flow.specs.declared.Use.{Use}
-use Rattle.sender.specs.declared.Name as sender-name
+use Rattle.sender.specs.declared.Name as sender_name
 use Rattle.store.specs.Store.{Rows, rows, words_at, use_at, units_put, uses_put, is_at, first, find}
 use Rattle.fair.specs.Store as model
 use Rattle.fair.specs.Demand.{Kept, absent, present, there}
@@ -69,7 +69,7 @@ module _ (room : ℕ) where
       go i true e = absurd (true≢false e)
       go i false e = ap (λ (l : List R'). x ∷ l) (i e)
 
-  module _ (m : Rows) (w : sender-name.Name) where
+  module _ (m : Rows) (w : sender_name.Name) where
     abbrev F : ℕ → ℕ
     F n = first (is_at m.tags m.units w) n
 

@@ -18,7 +18,7 @@ use Rattle.flow.specs.declared.Use.{Use}
 use Rattle.verdict.specs.declared.Outcome.{Outcome}
 use Rattle.verdict.specs.declared.Verdict.{Verdict}
 use Rattle.sender.specs.declared.Unit as unit
-use Rattle.sender.specs.declared.Name as sender-name
+use Rattle.sender.specs.declared.Name as sender_name
 use Rattle.cut_sources.specs.Counted as counts
 use Rattle.store.specs.Store.{Rows, rows}
 use Rattle.store.proofs.Places.{Same}
@@ -232,7 +232,7 @@ module _ (room : ℕ) (rate : List ℕ) where
   abbrev rows_then : Rows → goal.Tally → Rows
   rows_then m t = rows t.tags m.units m.uses
 
-  pub tallied_bound : (h : Shedder) (k : List (List ℕ)) (n : sender-name.Name) (c r : ℕ) (m : Rows) (st : S) (clk : ℕ) → Bound room rate h m st clk
+  pub tallied_bound : (h : Shedder) (k : List (List ℕ)) (n : sender_name.Name) (c r : ℕ) (m : Rows) (st : S) (clk : ℕ) → Bound room rate h m st clk
       → Bound room rate (goal.tallied (tally_on h m k) n c r).head (rows_then m (goal.tallied (tally_on h m k) n c r)) st clk
   unfolding goal.tallied
   tallied_bound h k n c r m st clk b =
@@ -241,7 +241,7 @@ module _ (room : ℕ) (rate : List ℕ) where
       let ts = counts.pruned_tags s (counts.count_tags own k h.counted n) in
       counted_bound h (counts.pruned s).count c r (rows (take h.unit_room m.tags ++ ts) m.units m.uses) st clk (behind_bound h m ts st clk b)
 
-  verdict_bound : (h : Shedder) (k : List (List ℕ)) (n : sender-name.Name) (v : Verdict) (cost : List ℕ) (m : Rows) (st : S) (clk : ℕ) → Bound room rate h m st clk
+  verdict_bound : (h : Shedder) (k : List (List ℕ)) (n : sender_name.Name) (v : Verdict) (cost : List ℕ) (m : Rows) (st : S) (clk : ℕ) → Bound room rate h m st clk
       → Bound room rate (goal.count_verdict (tally_on h m k) n v cost).head (rows_then m (goal.count_verdict (tally_on h m k) n v cost)) st clk
   unfolding goal.count_verdict
   verdict_bound h k n v cost m st clk b = go (is_admitted v)

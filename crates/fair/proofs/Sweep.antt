@@ -11,7 +11,7 @@ use Rattle.store.specs.Store.{Rows, rows, words_at, use_at}
 use Rattle.store.proofs.Places.{Same}
 use Rattle.store_retain.specs.Retain.{Kept, retained}
 use Rattle.store.specs.Store.{Record, record_at as lent_at_lem}
-use Rattle.store_retain.specs.Laws.{stale as lent-stale, records, without}
+use Rattle.store_retain.specs.Laws.{stale as lent_stale, records, without}
 use Rattle.store_retain.proofs.Places.{Long}
 use Rattle.store_retain.proofs.Laws.{later, retains}
 use Rattle.fair.proofs.View as view
@@ -101,8 +101,8 @@ module _ (room : ℕ) where
   listed_of m zero = refl
   listed_of m (suc n) = simp (listed_of m n, of_at m n) (sym (map_end (records m n) (lent_at_lem m n)))
 
-  stale_of : (t a : ℕ) (r : Record) → stale t a (of r) ≡ lent-stale t a r
-  unfolding of lent-stale view.record_at words_at use_at
+  stale_of : (t a : ℕ) (r : Record) → stale t a (of r) ≡ lent_stale t a r
+  unfolding of lent_stale view.record_at words_at use_at
   stale_of t a r = simp later
 
   sweep_of : (p : R' → Bool) (q : Record → Bool) → ((r : Record) → p (of r) ≡ q r) → (l : List Record) → sweep p (map of l) ≡ map of (without q l)
@@ -129,8 +129,8 @@ module _ (room : ℕ) where
         record {
           few = d.few;
           long = record { tags = d.tags; units = d.units; uses = d.uses };
-          wide = λ v f. wide_of v k.rows k.count (subst (Each v) (sym d.stay) (each_without v (lent-stale t a) (records m n) (of_wide v m n f)));
+          wide = λ v f. wide_of v k.rows k.count (subst (Each v) (sym d.stay) (each_without v (lent_stale t a) (records m n) (of_wide v m n f)));
           list =
               listed_of k.rows k.count ∙ ap (map of) d.stay
-              ∙ sym (ap (sweep (stale t a)) (listed_of m n) ∙ sweep_of (stale t a) (lent-stale t a) (stale_of t a) (records m n));
+              ∙ sym (ap (sweep (stale t a)) (listed_of m n) ∙ sweep_of (stale t a) (lent_stale t a) (stale_of t a) (records m n));
         }

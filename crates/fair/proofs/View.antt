@@ -8,7 +8,7 @@ use lib.Dec.{T, eqb, ltb}
 use lib.ListN.{length, length-append}
 use borrow.Author.Tests.{eqb-true, eq-eqb}
 use Rattle.flow.specs.declared.Use.{Use}
-use Rattle.sender.specs.declared.Name as sender-name
+use Rattle.sender.specs.declared.Name as sender_name
 use Rattle.sender.specs.Sender as sender
 use Rattle.sender.specs.declared.Unit as unit
 use Rattle.store.specs.Store as store
@@ -22,7 +22,7 @@ use Rattle.fair.specs.Calls.{same_name}
 -- a unit's tag and words, and whether it is overflow, which goes to overflow's record at once
 pub record Name : Type 0 where
   pub overflow : Bool
-  pub name : sender-name.Name
+  pub name : sender_name.Name
 
 abbrev pub alike : Bool → Bool → Bool
 alike true b = b
@@ -38,7 +38,7 @@ shares u = u.overflow
 abbrev pub name_of : unit.Unit → Name
 name_of u = record { overflow = sender.is_overflow u; name = sender.name_of u }
 
-abbrev pub named : sender-name.Name → Name
+abbrev pub named : sender_name.Name → Name
 named w = record { overflow = false; name = w }
 
 alike_of : (a b : Bool) → alike a b ≡ true → a ≡ b
@@ -54,15 +54,15 @@ true_of : (b : Bool) → T b → b ≡ true
 true_of true t = refl
 true_of false t = absurd t
 
-name_ext : (a a' : Bool) (w w' : sender-name.Name) → a ≡ a' → w ≡ w' → ◌≡◌ {A = Name} (record { overflow = a; name = w }) (record { overflow = a'; name = w' })
+name_ext : (a a' : Bool) (w w' : sender_name.Name) → a ≡ a' → w ≡ w' → ◌≡◌ {A = Name} (record { overflow = a; name = w }) (record { overflow = a'; name = w' })
 name_ext a a' w w' p q = cc
 
-pair_same : (v w : sender-name.Name) → same_name v w ≡ true → v ≡ w
+pair_same : (v w : sender_name.Name) → same_name v w ≡ true → v ≡ w
 pair_same v w e =
     let a = both_yes (eqb w.tag v.tag) _ e in
     stored.name_ext v.tag w.tag v.words w.words (sym (eqb-true w.tag v.tag a.0)) (sym (stored.words_same w.words v.words a.1))
 
-pair_self : (v : sender-name.Name) → same_name v v ≡ true
+pair_self : (v : sender_name.Name) → same_name v v ≡ true
 pair_self v = simp (eq-eqb v.tag v.tag refl, stored.words_self v.words)
 
 pub same_is : (u v : Name) → T (same u v) → u ≡ v
@@ -81,7 +81,7 @@ module _ (room : ℕ) where
   abbrev pub sweep : (R → Bool) → List R → List R
   sweep p rs = model.sweep Name same shares room p rs
 
-  abbrev pub row : sender-name.Name → Use → R
+  abbrev pub row : sender_name.Name → Use → R
   row w u = record { name = named w; used = u }
 
   unfoldable pub record_at : Rows → ℕ → R

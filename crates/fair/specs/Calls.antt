@@ -73,7 +73,7 @@ abbrev pub read_number : State → Reading → ℕ
 read_number s (Report out) = report_number s out
 read_number s (ReportBeside out) = report_number s out
 read_number s (Count c) = shed.reading_number (shed.cut_batches s.head c)
-read_number s Visited = shed.reading_number (shed.visited-tables s.head)
+read_number s Visited = shed.reading_number (shed.visited_tables s.head)
 read_number s (Level d) = shed.level_number (shed.level_read s.head d)
 read_number s (Rate d) = shed.rate_number (shed.rate_read s.head d)
 read_number s IsBounded = shed.bounded_number (shed.is_bounded s.head)

@@ -4,7 +4,7 @@ unfoldable pub use Rattle.flow.specs.Flow.{numbers, fills}
 unfoldable pub use Rattle.head.specs.Questions.{is_rate, is_max, all_rates, is_unbounded, is_stamp, costs_held, stamps_whole, tables_whole, rooms_whole, tags_whole, sizes_whole, head_whole, memory_whole, start_asked, judge_asked, cut_asked}
 pub use Rattle.head.specs.Start.{Beginning, start_ends}
 unfoldable pub use Rattle.head.specs.Start.{buckets, first_levels, opening, start}
-unfoldable pub use Rattle.head.specs.Readings.{index_of, visited as visited-tables, cut_batches, level_read, rate_read, is_bounded}
+unfoldable pub use Rattle.head.specs.Readings.{index_of, visited as visited_tables, cut_batches, level_read, rate_read, is_bounded}
 unfoldable pub use Rattle.head.specs.Answers.{judge_number, cut_number, reading_number, level_number, rate_number, bounded_number}
 pub use Rattle.scan_trim.specs.Trimming.{trims_at}
 unfoldable pub use Rattle.scan_trim.specs.Trimming.{opens, levels, trimmed}

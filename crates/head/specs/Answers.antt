@@ -9,9 +9,9 @@ use Rattle.head.specs.declared.Begin.TheVariants as begin
 use Rattle.head.specs.declared.Reading.{Reading}
 use Rattle.head.specs.declared.Reading.TheVariants as reading
 use Rattle.head.specs.declared.LevelRead.{LevelRead}
-use Rattle.head.specs.declared.LevelRead.TheVariants as level-reads
+use Rattle.head.specs.declared.LevelRead.TheVariants as level_reads
 use Rattle.head.specs.declared.RateRead.{RateRead}
-use Rattle.head.specs.declared.RateRead.TheVariants as rate-reads
+use Rattle.head.specs.declared.RateRead.TheVariants as rate_reads
 use Rattle.head.specs.declared.BoundedRead.{BoundedRead}
 use Rattle.head.specs.declared.BoundedRead.TheVariants as bounded_reads
 use Rattle.head.specs.declared.Written.{Written}
@@ -36,13 +36,13 @@ reading_number (reading.Whole x) = 0
 reading_number (reading.Refused n) = n
 
 unfoldable pub level_number : LevelRead → ℕ
-level_number (level-reads.Level x) = 0
-level_number (level-reads.Refused n) = n
+level_number (level_reads.Level x) = 0
+level_number (level_reads.Refused n) = n
 
 unfoldable pub rate_number : RateRead → ℕ
-rate_number rate-reads.Unbounded = 0
-rate_number (rate-reads.PerSecond x) = 0
-rate_number (rate-reads.Refused n) = n
+rate_number rate_reads.Unbounded = 0
+rate_number (rate_reads.PerSecond x) = 0
+rate_number (rate_reads.Refused n) = n
 
 unfoldable pub bounded_number : BoundedRead → ℕ
 bounded_number bounded_reads.Bounded = 0

@@ -8,9 +8,9 @@ use Rattle.head.specs.declared.Cause.{Cause}
 use Rattle.head.specs.declared.Cause.TheVariants as cause
 use Rattle.head.specs.declared.Reading.{Reading}
 use Rattle.head.specs.declared.LevelRead.{LevelRead}
-use Rattle.head.specs.declared.LevelRead.TheVariants as level-reads
+use Rattle.head.specs.declared.LevelRead.TheVariants as level_reads
 use Rattle.head.specs.declared.RateRead.{RateRead}
-use Rattle.head.specs.declared.RateRead.TheVariants as rate-reads
+use Rattle.head.specs.declared.RateRead.TheVariants as rate_reads
 use Rattle.head.specs.declared.Reading.TheVariants as reading
 use Rattle.head.specs.declared.BoundedRead.{BoundedRead}
 use Rattle.head.specs.declared.BoundedRead.TheVariants as bounded_reads
@@ -29,10 +29,10 @@ unfoldable pub cut_batches : Shedder → Cause → Reading
 cut_batches h c = cond (head_whole h) (reading.Whole (get_or h.batches (index_of c) 0)) (reading.Refused 3)
 
 unfoldable pub level_read : Shedder → Dim → LevelRead
-level_read h d = cond (head_whole h) (level-reads.Level (get_or h.level (dim_of d) Ieee.nan)) (level-reads.Refused 3)
+level_read h d = cond (head_whole h) (level_reads.Level (get_or h.level (dim_of d) Ieee.nan)) (level_reads.Refused 3)
 
 unfoldable pub rate_read : Shedder → Dim → RateRead
-rate_read h d = cond (head_whole h) (cond (is_unbounded h.flow.rate) rate-reads.Unbounded (rate-reads.PerSecond (get_or h.flow.rate (dim_of d) 0))) (rate-reads.Refused 3)
+rate_read h d = cond (head_whole h) (cond (is_unbounded h.flow.rate) rate_reads.Unbounded (rate_reads.PerSecond (get_or h.flow.rate (dim_of d) 0))) (rate_reads.Refused 3)
 
 unfoldable pub is_bounded : Shedder → BoundedRead
 is_bounded h = cond (head_whole h) (cond (is_unbounded h.flow.rate) bounded_reads.Unbounded bounded_reads.Bounded) (bounded_reads.Refused 3)

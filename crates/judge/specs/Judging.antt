@@ -11,7 +11,7 @@ use Rattle.verdict.specs.declared.Outcome.{Outcome}
 use Rattle.verdict.specs.declared.Verdict.{Verdict}
 use Rattle.verdict.specs.declared.Verdict.TheVariants as verdict
 use Rattle.verdict.specs.declared.Rule.{Rule}
-use Rattle.verdict.specs.declared.Rule.TheVariants as rule-kind
+use Rattle.verdict.specs.declared.Rule.TheVariants as rule_kind
 use Rattle.sender.specs.declared.Unit as unit
 use Rattle.sender.specs.declared.Unit.TheVariants as units
 use Rattle.sender.specs.Sender as sender
@@ -149,4 +149,4 @@ bounded_ruling h m u cost stamp = Ruled (ruled h m u (flow.numbers cost) (max st
 unfoldable pub ruling : Shedder → Memory → unit.Unit → List ℕ → ℕ → Ruling
 ruling h m u cost stamp =
     cond (eqb (judge_asked h (length m.rows.tags) (length m.rows.units) (length m.rows.uses) (length m.counted) cost stamp) 0)
-    (cond (is_unbounded h.flow.rate) (Ruled (rule-kind.Admitted nothing)) (bounded_ruling h m.rows u cost stamp)) Refused
+    (cond (is_unbounded h.flow.rate) (Ruled (rule_kind.Admitted nothing)) (bounded_ruling h m.rows u cost stamp)) Refused

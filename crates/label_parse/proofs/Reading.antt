@@ -113,8 +113,8 @@ module _ (base : ℕ) (some : 1 < base) (few : base ≤ 16) where
       ∙ same_at (omega arith) (omega arith)
 
   -- two numerals behind three bytes, with a byte between them and one behind
-  module _ (most m : ℕ) (h0 h1 h2 a mid b x : ℕ) (t : List ℕ) (pos : 0 < m) (l : m ≤ most) (below-a : a < base ^ m) (below-b : b < base ^ m)
-      (ends-a : base ≤ digit mid) (ends-b : base ≤ digit x) where
+  module _ (most m : ℕ) (h0 h1 h2 a mid b x : ℕ) (t : List ℕ) (pos : 0 < m) (l : m ≤ most) (below_a : a < base ^ m) (below_b : b < base ^ m)
+      (ends_a : base ≤ digit mid) (ends_b : base ≤ digit x) where
     abbrev head : List ℕ
     head = h0 ∷ h1 ∷ h2 ∷ []
 
@@ -123,7 +123,7 @@ module _ (base : ℕ) (some : 1 < base) (few : base ≤ 16) where
 
     first-is : first_of base m text ≡ at a (3 + length (numeral base most a))
     unfolding first_of
-    first-is = field_numeral most m text head (numeral base most b ++ (x ∷ t)) a mid 3 refl refl below-a pos l ends-a
+    first-is = field_numeral most m text head (numeral base most b ++ (x ∷ t)) a mid 3 refl refl below_a pos l ends_a
 
     parts : text ≡ head ++ numeral base most a ++ (mid ∷ []) ++ (numeral base most b ++ (x ∷ t))
     parts = sym (append_assoc (head ++ numeral base most a) (mid ∷ []) (numeral base most b ++ (x ∷ t)) ∙ append_assoc head (numeral base most a) (mid ∷ (numeral base most b ++ (x ∷ t))))
@@ -137,4 +137,4 @@ module _ (base : ℕ) (some : 1 < base) (few : base ≤ 16) where
         ap (λ (f : Field). (field base m text (from (f.at + 1))).value) first-is
         ∙ ap (λ (f : Field). f.value)
         (field_numeral most m text (head ++ numeral base most a ++ (mid ∷ [])) t b x (3 + length (numeral base most a) + 1) parts
-        (simp length-append (omega arith)) below-b pos l ends-b)
+        (simp length-append (omega arith)) below_b pos l ends_b)

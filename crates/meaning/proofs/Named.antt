@@ -27,7 +27,7 @@ use Rattle.meaning.specs.State.{State, Unit, Use, Outcome, After}
 use Rattle.meaning.specs.Page as page
 use Rattle.meaning.specs.Named.{entered, place, name_in, use_in, Tracked, Uses, Named}
 use Rattle.meaning.proofs.Asked.{head_is, memory_is}
-use Rattle.meaning.proofs.Judged.{entry-is, entered as as-page}
+use Rattle.meaning.proofs.Judged.{entry-is, entered as as_page}
 
 -- ---- the record entered: in use, below the room, named; the others, and overflow's, as before
 pub record InItsRecord (s : State) (u : Unit) (x : After ℕ) : Type 0 where
@@ -63,14 +63,14 @@ module _ (s : State) (u : Unit) (clock : ℕ) (w : Tracked s u) where
   abbrev e : Entered
   e = entering.entry s.rows tracked s.head.unit_room u clock
 
-  found_own : Has s.rows tracked (name_of u) → InItsRecord s u (as-page s e)
+  found_own : Has s.rows tracked (name_of u) → InItsRecord s u (as_page s e)
   found_own h =
       let f = (owns s.rows tracked s.head.unit_room u clock (fits s u w)).found w.own h in
       let x = fits s u w in
-      subst (λ (y : Entered). InItsRecord s u (as-page s y)) (sym f.kept)
+      subst (λ (y : Entered). InItsRecord s u (as_page s y)) (sym f.kept)
       (record { in_use = f.in_use; below = omega (arith, f.in_use, x.units, x.used); room = omega (arith, f.in_use, x.used); named = f.named; others = λ j q. refl; overflow = refl })
 
-  added_own : (Has s.rows tracked (name_of u) → ⊥) → tracked < s.head.unit_room → InItsRecord s u (as-page s e)
+  added_own : (Has s.rows tracked (name_of u) → ⊥) → tracked < s.head.unit_room → InItsRecord s u (as_page s e)
   added_own lacks l =
       let f = (owns s.rows tracked s.head.unit_room u clock (fits s u w)).added w.own lacks l in
       let x = fits s u w in

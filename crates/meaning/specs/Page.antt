@@ -7,7 +7,7 @@ use Rattle.std.specs.Float.Ieee.{of_bits}
 use Rattle.ieee.specs.Doubles.{◌⊕◌, ◌⊖◌, ◌⊗◌, ◌⊘◌, ◌⊴◌, ◌⊲◌, whole, nothing, one, half, thousand}
 use Rattle.ieee.specs.Extremes.{least, most, clamped}
 use Rattle.fade.specs.Fade.{fade}
-use Rattle.flow.specs.Flow.{dims, numbers, seconds, zeros, largest, all, dim_of, dim_at, bucket_at, is_fresh, added as new-use}
+use Rattle.flow.specs.Flow.{dims, numbers, seconds, zeros, largest, all, dim_of, dim_at, bucket_at, is_fresh, added as new_use}
 use Rattle.verdict.specs.Verdict.{is_admitted}
 use Rattle.verdict.specs.declared.Verdict.TheVariants as verdict
 use Rattle.verdict.specs.declared.Side.TheVariants as sides
@@ -164,7 +164,7 @@ entry s u clock =
     let found = store.find s.rows.tags s.rows.units (name_of u) tracked in
     cond (is_overflow u) (after room s)
     (cond (found <? tracked) (after found s)
-    (cond (tracked <? room) (after tracked (with_rows (with_tracked s (tracked + 1)) (store.added s.rows tracked (name_of u) (new-use clock))))
+    (cond (tracked <? room) (after tracked (with_rows (with_tracked s (tracked + 1)) (store.added s.rows tracked (name_of u) (new_use clock))))
     (after room s)))
 
 unfoldable pub used_at : State → (place : ℕ) → Use
@@ -245,13 +245,13 @@ unfoldable pub rule : Flow → (level : List Float) → Use → (rank : Float) (
 rule f level u rank cost clock =
     let m = met f level u rank cost clock in
     let side = cond (m.want ⊴ one) sides.Within sides.Over in
-    let no-credit = lacking (λ d. cost ! d ⊴ m.credit ! d) dims in
+    let no_credit = lacking (λ d. cost ! d ⊴ m.credit ! d) dims in
     let no_tokens = lacking (λ d. cost ! d ⊴ (bucket_at m.buckets d).tokens) dims in
-    let no-reserve = lacking (λ d. m.mark ⊴ part_left m cost d) dims in
-    cond (no-credit <? dims) (rules.Credit side (dim_at no-credit))
+    let no_reserve = lacking (λ d. m.mark ⊴ part_left m cost d) dims in
+    cond (no_credit <? dims) (rules.Credit side (dim_at no_credit))
     (cond (no_tokens <? dims) (rules.Tokens side (dim_at no_tokens))
-    (cond (m.want ⊴ one || dims <=? no-reserve) (rules.Admitted m.want)
-    (rules.Reserve (dim_at no-reserve) m.mark (part_left m cost no-reserve))))
+    (cond (m.want ⊴ one || dims <=? no_reserve) (rules.Admitted m.want)
+    (rules.Reserve (dim_at no_reserve) m.mark (part_left m cost no_reserve))))
 
 -- on the state: the rule on the record used
 unfoldable pub ruled : State → Unit → (cost : List Float) (clock : ℕ) → Rule
@@ -271,9 +271,9 @@ counted s name cause receptions =
     let totals = counts.totals more.rows more.count in
     let k = sorted totals # (length totals / 4) in
     let kept = cond fits more (counts.prune more.rows k more.count) in
-    let kept-tags = cond fits tags (counts.prune_tags tags more.rows k more.count) in
+    let kept_tags = cond fits tags (counts.prune_tags tags more.rows k more.count) in
     let head = added s.head kept.count cause receptions in
-    record { head = head; rows = rows (take room s.rows.tags ++ kept-tags) s.rows.units s.rows.uses; hist = s.hist; counted = kept.rows }
+    record { head = head; rows = rows (take room s.rows.tags ++ kept_tags) s.rows.units s.rows.uses; hist = s.hist; counted = kept.rows }
 
 -- ==== The scan and the level (document 01: the level, `scanned`, `trimmed`)
 -- where no scan runs and the last one began 500 ms ago or earlier, one begins at the clock, over 64 tables and an empty histogram

@@ -11,10 +11,10 @@ use Rattle.scan.specs.Laws.{Stays, Scans}
 use Rattle.scan.proofs.Judgements.{ended_by, visits_two, rests}
 
 -- ---- what a visit, a beginning and an end keep, a judgement keeps
-module _ (P : Shedder → Type 0) (at-visit : (h : Shedder) (n : ℕ) → P h → P (visited h n)) (at-begin : (h : Shedder) (t : ℕ) → P h → P (opened h t)) (at-end : (h : Shedder) (g : Hist) → P h → P (trimmed h g)) where
+module _ (P : Shedder → Type 0) (at_visit : (h : Shedder) (n : ℕ) → P h → P (visited h n)) (at_begin : (h : Shedder) (t : ℕ) → P h → P (opened h t)) (at-end : (h : Shedder) (g : Hist) → P h → P (trimmed h g)) where
   visit_keeps : (s : Scanning) → P s.head → P (visit s).head
   unfolding visit
-  visit_keeps s p = at-visit s.head (retained s.rows s.head.scan.next s.head.scan.at_ms s.head.tracked).count p
+  visit_keeps s p = at_visit s.head (retained s.rows s.head.scan.next s.head.scan.at_ms s.head.tracked).count p
 
   again_keeps : (s : Scanning) → P s.head → P (again s).head
   unfolding again
@@ -31,7 +31,7 @@ module _ (P : Shedder → Type 0) (at-visit : (h : Shedder) (n : ℕ) → P h �
       go : (b c : Bool) → P (cond b (started h g) (cond c (started h g) (started (opened h t) cleared))).head
       go true c = p
       go false true = p
-      go false false = at-begin h t p
+      go false false = at_begin h t p
 
   keeps : (s : Scanning) (clock : ℕ) → P s.head → P (scanned s clock).head
   unfolding scanned
