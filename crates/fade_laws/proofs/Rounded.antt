@@ -10,7 +10,7 @@ use lib.Ieee.Positive.{num, den, positive, positive-finite, value→cross}
 use Rattle.fade.specs.Exp.{top, bot, cap}
 use Rattle.fade.proofs.Entries.{Rounded}
 use Rattle.fade_laws.specs.Laws.{Close}
-use Rattle.fade_laws.proofs.Series.{bot_pos, top_pos, top_le_cap, late, capped}
+use Rattle.fade_laws.proofs.Series.{bot_pos, top_pos, top_le_cap, capped}
 use Rattle.fade_laws.proofs.Rounding.{Near, round_near}
 
 pub cap_pos : (p q n : ℕ) → 0 < q → 0 < cap p q n

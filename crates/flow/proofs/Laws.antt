@@ -1,5 +1,5 @@
 -- The laws of spending and of the hand-back (specs/Laws.antt). Assumes nothing.
-use Rattle.std.proofs.Common.{◌≡◌, ℕ, ◌+◌, ◌-◌, ◌*◌, ◌^◌, ◌≤◌, sym, ap, ◌∙◌, subst, le_trans, le_of_eq, mul-le-mul_right, arith, lit≤}
+use Rattle.std.proofs.Common.{ℕ, ◌+◌, ◌-◌, ◌*◌, ◌^◌, ◌≤◌, sym, ap, ◌∙◌, subst, le_trans, le_of_eq, mul-le-mul_right, arith, lit≤}
 use lib.Ieee as Ieee
 use lib.Ieee.{Float, binary64}
 use Rattle.ieee.specs.Doubles.{whole}

@@ -1,6 +1,6 @@
 -- The rank's exact value, and that the Rust's table, taken from the rank in doubles, is the table.
 use mathlib.Core.Path.{◌≡◌, refl, sym, ap, ◌∙◌, subst}
-use Prim.Native.Nat.{ℕ, ◌+◌, ◌*◌, ◌-◌, ◌/◌, ◌^◌, ◌<◌, ◌≤◌, min}
+use Prim.Native.Nat.{ℕ, ◌+◌, ◌*◌, ◌-◌, ◌/◌, ◌^◌, ◌<◌, min}
 use native.Mathlib.Nat.{le_of_lt, le_trans, le_of_eq, min-eq_left, mul-le-mul_right, mul_assoc, mul_comm, one-mul, mul-div-mul_right}
 use native.Mathlib.Omega.{arith}
 use mathlib.Core.Bool.{true, false}

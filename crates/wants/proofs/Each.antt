@@ -1,5 +1,5 @@
 -- A test that passes at each place below n, computed once. Assumes nothing.
-use Rattle.std.proofs.Common.{◌≡◌, ℕ, zero, suc, ◌<◌, Bool, true, ◌&&◌, T, sym, subst, inl, inr, le_of_suc-le-suc, not-suc-le-zero, eq-or-lt_of_le}
+use Rattle.std.proofs.Common.{ℕ, zero, suc, ◌<◌, Bool, true, ◌&&◌, T, sym, subst, inl, inr, le_of_suc-le-suc, not-suc-le-zero, eq-or-lt_of_le}
 use lib.Ieee.Fits.{and_l, and_r}
 
 unfoldable pub upto : (ℕ → Bool) → ℕ → Bool

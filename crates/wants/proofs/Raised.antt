@@ -1,5 +1,5 @@
 -- The sixteenth powers: the bucket of s × 2 ^ (o - 52) is 16 × o and the sixteenth that s stands in. Assumes nothing.
-use Rattle.std.proofs.Common.{◌≡◌, ℕ, zero, suc, ◌+◌, ◌-◌, ◌*◌, ◌^◌, ◌<◌, ◌≤◌, true, false, sym, refl, ap, ◌∙◌, subst, inl, inr, le_trans, le_of_eq, le_refl, lt_of_lt_of_le, le_of_suc-le-suc, mul-le-mul_right, suc-mul, lt_of_mul-lt-mul_right, eq-or-lt_of_le, mul-lt-mul_of_pos_right, mul-pos, pow-suc, zero-mul, not-le_of_lt, le_of_mul-le-mul_right, arith, pow_pos, pow_mono, pow-add, le-leb}
+use Rattle.std.proofs.Common.{◌≡◌, ℕ, zero, suc, ◌+◌, ◌*◌, ◌^◌, ◌<◌, ◌≤◌, true, false, sym, refl, ap, ◌∙◌, subst, inl, inr, le_trans, le_of_eq, le_refl, lt_of_lt_of_le, le_of_suc-le-suc, mul-le-mul_right, suc-mul, lt_of_mul-lt-mul_right, eq-or-lt_of_le, mul-lt-mul_of_pos_right, mul-pos, pow-suc, zero-mul, not-le_of_lt, le_of_mul-le-mul_right, arith, pow_pos, pow_mono, pow-add, le-leb}
 use native.Mathlib.Nat.{eq_of_mul-eq-mul_right, pow-lt-pow_left, le-suc}
 use native.Mathlib.Nat.{pow-zero}
 use borrow.Author.Tests.{lt-leb}

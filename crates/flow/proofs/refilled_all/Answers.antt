@@ -1,6 +1,6 @@
 -- `flow::refilled_all` meets its contract. The loop's invariant: the parts below d are the definition's. Assumes nothing.
 use Rattle.std.proofs.Common.{◌≡◌, arith, rules}
-use Rattle.flow.specs.Flow.{dims, refilled}
+use Rattle.flow.specs.Flow.{dims}
 use Rattle.flow.proofs.Parts.{upto_none, upto_next}
 use Rattle.flow.proofs.refilled_all.Goals as goal
 

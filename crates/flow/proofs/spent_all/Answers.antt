@@ -1,6 +1,6 @@
 -- `flow::spent_all` meets its contract. The loop's invariant: the parts below d are the definition's. Assumes nothing.
 use Rattle.std.proofs.Common.{◌≡◌, arith, rules}
-use Rattle.flow.specs.Flow.{dims, spent}
+use Rattle.flow.specs.Flow.{dims}
 use Rattle.flow.proofs.Parts.{upto_none, upto_next}
 use Rattle.flow.proofs.spent_all.Goals as goal
 

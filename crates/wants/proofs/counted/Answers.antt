@@ -2,7 +2,6 @@
 use Rattle.wants.proofs.Steps.{counted_none}
 use Rattle.wants.proofs.Whole.{number_zero, sum_next}
 use Rattle.std.proofs.Common.{◌≡◌, sym, ◌∙◌, arith, rules}
-use Rattle.ieee.specs.Doubles.{whole}
 use Rattle.wants.proofs.counted.Goals as goal
 
 pub loop-i-init : goal.loop-i-init

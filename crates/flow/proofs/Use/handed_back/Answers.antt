@@ -1,6 +1,6 @@
 -- `flow::Use::handed_back` meets its contract. The loop's invariant: the parts below d are the definition's. Assumes nothing.
 use Rattle.std.proofs.Common.{◌≡◌, arith, rules}
-use Rattle.flow.specs.Flow.{dims, credit_back}
+use Rattle.flow.specs.Flow.{dims}
 use Rattle.flow.proofs.Parts.{upto_none, upto_next}
 use Rattle.flow.proofs.Use.handed_back.Goals as goal
 
