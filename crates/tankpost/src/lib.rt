@@ -1,4 +1,4 @@
-// The calls for relays in Rust or C. `rt staticlib tankpost` makes the archive that they link.
+// The calls for relays in Rust or C. `rt lib` in this folder makes the archive that they link, out/libtankpost.a.
 // The head goes in and comes back by value; all other memory is lent. In C a slice is a pointer and a count, a reference to
 // an array is a pointer. Any bits may stand in head and memory. Each contract cites the page of crate meaning.
 #![tactic(auto)]

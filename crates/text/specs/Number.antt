@@ -1,4 +1,4 @@
--- Numbers as text. Definitions only; `glyph` and `digits` (a fixed number of digits) are the library's.
+-- Numbers as text. Definitions only; `hex_digit_ascii` and `last_digits` (a fixed number of digits) are the library's.
 use Rattle.std.specs.Prelude.{ℕ, zero, suc, ◌/◌, ◌%◌, cond, List, [], ◌∷◌, ◌++◌, ltb}
 use Rattle.io.specs.Digits.{hex_digit_ascii, last_digits}
 
