@@ -1,29 +1,11 @@
--- The thresholds of `least` in src/bucket.rt, and their rule at every entry, by one test that antt computes. Assumes nothing.
-use Rattle.std.proofs.Common.{◌≡◌, ℕ, zero, suc, ◌+◌, ◌-◌, ◌^◌, ◌<◌, ◌≤◌, Bool, ◌&&◌, T, ltb, leb, List, [], ◌∷◌, get_or, le_trans, lt_of_lt_of_le, lt_of_le_of_lt, not-le_of_lt, arith, lit<, ltb→lt, leb→le, pow_mono}
+-- What the test of the thresholds says of every entry, and of a comparison with it. Assumes nothing.
+use Rattle.std.proofs.Common.{◌≡◌, ℕ, zero, suc, ◌+◌, ◌-◌, ◌^◌, ◌<◌, ◌≤◌, Bool, ◌&&◌, T, ltb, leb, get_or, le_trans, lt_of_lt_of_le, lt_of_le_of_lt, not-le_of_lt, arith, lit<, ltb→lt, leb→le, pow_mono}
 use native.Mathlib.Nat.{pow-le-pow_left, pow-lt-pow_left}
 use lib.Ieee.Fits.{and_l, and_r}
 use Rattle.wants.specs.Bucket.{From, Under, Threshold}
-use Rattle.wants.proofs.Each.{upto, each}
-
--- ---- the table
-unfoldable pub table : List ℕ
-table =
-    0x10000000000000 ∷ 0x10b5586cf98910 ∷ 0x1172b83c7d517b ∷ 0x12387a6e756239 ∷
-    0x1306fe0a31b716 ∷ 0x13dea64c123423 ∷ 0x14bfdad5362a28 ∷ 0x15ab07dd48542a ∷
-    0x16a09e667f3bcd ∷ 0x17a11473eb0187 ∷ 0x18ace5422aa0dc ∷ 0x19c49182a3f091 ∷
-    0x1ae89f995ad3ae ∷ 0x1c199bdd85529d ∷ 0x1d5818dcfba488 ∷ 0x1ea4afa2a490da ∷
-    []
-
--- s is the least with 2 ^ (832 + j) ≤ s ^ 16
-least : ℕ → ℕ → Bool
-least j s = leb (2 ^ (832 + j)) (s ^ 16) && ltb ((s - 1) ^ 16) (2 ^ (832 + j))
-
-at : ℕ → Bool
-at j = least j (get_or table j 0)
-
-tested : T (upto at 16)
-unfolding table upto at least
-tested = tt
+use Rattle.wants.proofs.Each.{each}
+unfoldable pub use Rattle.wants.proofs.Table.{table}
+use Rattle.wants.proofs.Table.{least, at, tested}
 
 rule : (j : ℕ) → j < 16 → (2 ^ (832 + j) ≤ get_or table j 0 ^ 16) × ((get_or table j 0 - 1) ^ 16 < 2 ^ (832 + j))
 unfolding at least

@@ -5,4 +5,5 @@ pub mod Octave
 pub mod Pattern
 pub mod Raised
 pub mod Steps
+pub mod Table
 pub mod Whole
