@@ -1,6 +1,6 @@
 #!/usr/bin/env python3
-"""Writes the tables of the crate fade: src/tables.rt, and for each table its test, proofs/TableA.antt and proofs/TableB.antt, and the proof of the
-function that picks a row, proofs/tables/row_of_a/Proof.antt and proofs/tables/row_of_b/Proof.antt.
+"""Writes the tables of the crate fade: src/tables.rt, and for each table its test, proofs/TableA.antt and proofs/TableB.antt, and the answers to the
+goals of the function that picks a row, proofs/tables/row_of_a/Answers.antt and proofs/tables/row_of_b/Answers.antt.
 
 Usage: gen.py [ENTRIES_OF_B]     64 if none is given; `long` of specs/Fade.antt has to say the same number.
 Nothing here is trusted: the check computes that each entry is the double that the definition gives, and that it is the nearest one.
@@ -8,7 +8,6 @@ Nothing here is trusted: the check computes that each entry is the double that t
 import os
 import struct
 import sys
-import textwrap
 
 CRATE = os.path.join(os.path.dirname(os.path.abspath(__file__)), '..', 'crates', 'fade')
 STEP = 2000  # WINDOW_MS of src/lib.rt: the entries of A, and the milliseconds of one entry of B
@@ -58,8 +57,8 @@ def rt(t):
     for i, row in enumerate(t.rows):
         s += 'const %s_%d: [u64; %d] = [\n%s];\n\n' % (t.name, i, t.width, ''.join('    0x%016x,\n' % x for x in row))
     s += '// Row i of %s.\npub fn %s(i: u64) -> [u64; %d]\n' % (t.name, t.fn, t.width)
-    s += '    requires { ⌜ %d * i < %s ⌝ }\n' % (t.width, t.size)
-    s += '    ensures { λ row. ⌜ ((j : ℕ) → j < %d → ofBits binary64 (getD row j 0) ≡ spec.nearest (%d * i + j) %d) ⌝ }\n' % (t.width, t.width, t.q)
+    s += '    requires { %d * i < %s }\n' % (t.width, t.size)
+    s += '    ensures { (j : ℕ) → j < %d → of_bits binary64 (get_or result j 0) ≡ spec.nearest (%d * i + j) %d }\n' % (t.width, t.width, t.q)
     s += '{\n    match i {\n%s    }\n}\n' % ''.join('        %s => %s_%d,\n' % (i if i < last else '_', t.name, i) for i in range(last + 1))
     return s
 
@@ -67,8 +66,8 @@ def rt(t):
 def tables_rt(a, b, long):
     return ('// The tables of the fade. Each entry is the bit pattern of a double. Written by tools/gen.py; the check computes that each is the nearest double.\n'
             '// They stand in rows, since a constant array is stored to the stack where it is read: a short row comes out of read-only memory in a few loads.\n'
-            'ghost use mathlib.Core.Path.{_≡_};\nghost use Prim.Native.Nat.{ℕ, _+_, _*_, _<_};\nghost use lib.Ieee.{binary64, ofBits};\nghost use lib.ListN.{getD};\n'
-            'ghost use Rattle·fade·specs.specs.Fade as spec;\n\n'
+            'ghost use Rattle.std.specs.Prelude.{◌≡◌, ℕ, ◌+◌, ◌*◌, ◌<◌, get_or};\nghost use Rattle.std.specs.Float.{binary64};\nghost use Rattle.std.specs.Float.Ieee.{of_bits};\n'
+            'ghost use Rattle.fade.specs.Fade as spec;\n\n'
             '// How many entries B has.\nconst LONG: u64 = %d;\n\n'
             '// The tables end at these milliseconds.\npub const END: u64 = super::WINDOW_MS * LONG;\n\n' % long
             + '// The entries of a row of A, and of B.\npub const WIDTH_A: u64 = %d;\n\npub const WIDTH_B: u64 = %d;\n\n' % (a.width, b.width)
@@ -87,14 +86,14 @@ def antt(t):
     several = len(ps) > 1
     last = len(t.rows) - 1
     size = 'long' if t.size == 'spec.long' else t.size
-    test = 'in-rows (good least %d) width' % t.q
+    test = 'in_rows (good least %d) width' % t.q
     s = '-- The table %s of src/tables.rt, the doubles nearest %s, and the one test of all its entries, which antt computes' % (t.name, t.what)
     s += ', in parts that each keep to the steps that a declaration may take' if several else ''
     s += '. Written by tools/gen.py. Assumes nothing.\n'
-    s += 'use mathlib.Core.Path.{_≡_, refl, subst}\nuse mathlib.Core.List.{List, [], _∷_%s}\n' % (', _++_' if several else '')
-    s += 'use Prim.Native.Nat.{ℕ, _+_, _*_, _/_, _%_, _<_}\nuse native.Mathlib.Omega.{arith}\nuse lib.Dec.{T, lit<}\nuse lib.ListN.{length, getD}\nuse lib.Ieee.{binary64, ofBits}\n'
-    s += 'use Rattle·fade·specs.specs.Fade.{nearest%s}\n' % (', long' if size == 'long' else '')
-    s += 'use Rattle·fade·proofs.proofs.Table.{in-rows, %srow-at, at, None, past}\nuse Rattle·fade·proofs.proofs.Entries.{good, reads}\n\n' % ('joined, ' if several else '')
+    s += 'use mathlib.Core.Path.{◌≡◌, refl, subst}\nuse mathlib.Core.List.{List, [], ◌∷◌%s}\n' % (', ◌++◌' if several else '')
+    s += 'use Prim.Native.Nat.{ℕ, ◌+◌, ◌*◌, ◌/◌, ◌%◌, ◌<◌}\nuse native.Mathlib.Omega.{arith}\nuse lib.Dec.{T, lit<}\nuse lib.ListN.{length, get_or}\nuse lib.Ieee.{binary64, of_bits}\n'
+    s += 'use Rattle.fade.specs.Fade.{nearest%s}\n' % (', long' if size == 'long' else '')
+    s += 'use Rattle.fade.proofs.Table.{in_rows, %srow_at, at, None, past}\nuse Rattle.fade.proofs.Entries.{good, reads}\n\n' % ('joined, ' if several else '')
     s += '-- each entry is at least 2 ^ -least\nabbrev pub least : ℕ\nleast = %d\n\n' % t.least
     s += '-- the entries of a row\nabbrev pub width : ℕ\nwidth = %d\n\n' % t.width
     names = ['rows'] if not several else ['part%d' % i for i in range(len(ps))]
@@ -110,33 +109,29 @@ def antt(t):
         s += 'unfoldable pub rows : List (List ℕ)\nunfolding %s\nrows = %s\n\n' % (' '.join(names), whole)
         s += 'tested : T (%s 0 rows)\nunfolding rows\ntested = %s\n\n' % (test, proof)
     s += 'sized : width * length rows ≡ %s\nunfolding rows\nsized = refl\n\n' % size
-    s += '-- every entry passes\nabbrev pub entry : ℕ → ℕ\nentry p = getD (getD rows (p / width) []) (p % width) 0\n\n'
+    s += '-- every entry passes\nabbrev pub entry : ℕ → ℕ\nentry p = get_or (get_or rows (p / width) []) (p % width) 0\n\n'
     s += 'pub passes : (p : ℕ) → p < %s → T (good least %d p (entry p))\n' % (size, t.q)
     s += 'passes p h = at (good least %d) width rows tested p (lit< tt) (rw sized h)\n\n' % t.q
     s += '-- so each row has the nearest doubles: row k where i is k, and the last one where i is none of the numbers before it\n'
-    s += 'abbrev pub Row : ℕ → List ℕ → Type 0\nRow i row = (j : ℕ) → j < width → ofBits binary64 (getD row j 0) ≡ nearest (width * i + j) %d\n\n' % t.q
-    s += 'pub row : (k i : ℕ) → width * i < %s → i ≡ k → Row i (getD rows k [])\nrow k i h e j l =\n' % size
-    s += '    subst (λ (m : ℕ). ofBits binary64 (getD (getD rows m []) j 0) ≡ nearest (width * i + j) %d) e\n' % t.q
-    s += '    (reads least %d (width * i + j) (getD (getD rows i []) j 0) (row-at (good least %d) width rows tested i (rw sized h) j l))\n\n' % (t.q, t.q)
-    s += 'pub last : (i : ℕ) → width * i < %s → None i %d → Row i (getD rows %d [])\n' % (size, last, last)
+    s += 'abbrev pub Row : ℕ → List ℕ → Type 0\nRow i row = (j : ℕ) → j < width → of_bits binary64 (get_or row j 0) ≡ nearest (width * i + j) %d\n\n' % t.q
+    s += 'pub row : (k i : ℕ) → width * i < %s → i ≡ k → Row i (get_or rows k [])\nrow k i h e j l =\n' % size
+    s += '    subst (λ (m : ℕ). of_bits binary64 (get_or (get_or rows m []) j 0) ≡ nearest (width * i + j) %d) e\n' % t.q
+    s += '    (reads least %d (width * i + j) (get_or (get_or rows i []) j 0) (row_at (good least %d) width rows tested i (rw sized h) j l))\n\n' % (t.q, t.q)
+    s += 'pub last : (i : ℕ) → width * i < %s → None i %d → Row i (get_or rows %d [])\n' % (size, last, last)
     s += 'last i h n = row %d i h (omega (arith, past i %d n))\n' % (last, last)
     return s
 
 
-# ---- proofs/tables/row_of_a/Proof.antt, proofs/tables/row_of_b/Proof.antt
+# ---- proofs/tables/row_of_a/Answers.antt, proofs/tables/row_of_b/Answers.antt
 
-def proof(t):
+def answers(t):
     last = len(t.rows) - 1
-    names = ['returns'] + ['returns-%d' % (i + 1) for i in range(1, last + 1)]
-    module = 'Rattle·fade·proofs.proofs.tables.%s' % t.fn
     s = '-- `fade::tables::%s` meets its contract: each arm has its row of the tested table. Written by tools/gen.py. Assumes nothing.\n' % t.fn
-    s += 'use Rattle·fade·proofs.proofs.Table%s.{rows, row, last}\nuse %s.Statement.{statement}\nuse %s.Tie as tie\n\n' % (t.name, module, module)
-    for i, name in enumerate(names):
-        fact = 'row %d (c .before .args .i) (c .before .pre) (c .match .keys%d)' % (i, i + 1) if i < last else 'last (c .before .args .i) (c .before .pre) (c .match .rest)'
-        s += '%s : tie.Need-%s\nunfolding rows\n%s c = %s\n\n' % (name, name, name, fact)
-    spec = t.fn.replace('_', '-') + '-spec'
-    lines = textwrap.wrap('tie.close (tie.spec %s)' % ' '.join(names), width=143, break_on_hyphens=False)
-    s += 'pub %s : {M : Type 1} → statement M\n%s =\n    %s\n' % (spec, spec, '\n    '.join(lines))
+    s += 'use Rattle.fade.proofs.Table%s.{rows, row, last}\nuse Rattle.fade.proofs.tables.%s.Goals as goal\n' % (t.name, t.fn)
+    for i in range(last + 1):
+        name = 'returns-in-%d' % i if i < last else 'returns-in_default'
+        fact = 'row %d c.args.i c.requires c.in-%d.is' % (i, i) if i < last else 'last c.args.i c.requires c.in_default.in_default-own.rest'
+        s += '\npub %s : goal.%s\nunfolding rows\n%s c = %s\n' % (name, name, name, fact)
     return s
 
 
@@ -154,7 +149,7 @@ def main():
     write('src/tables.rt', tables_rt(a, b, long))
     for t in (a, b):
         write('proofs/Table%s.antt' % t.name, antt(t))
-        write('proofs/tables/%s/Proof.antt' % t.fn, proof(t))
+        write('proofs/tables/%s/Answers.antt' % t.fn, answers(t))
 
 
 if __name__ == '__main__':
