@@ -2,7 +2,7 @@
 """Times the trial program and the oracle on one large list, in turn, and compares what they print.
 
 usage: trial.py TRIAL ORACLE GENS [MEGABYTES]
-TRIAL is target/bin/shedtrial, ORACLE the program that oracle/build makes, GENS the folder of gens.py (oracle/), which makes lists.
+TRIAL is crates/shedtrial/out/shedtrial, ORACLE the program that oracle/build makes, GENS the folder of gens.py (oracle/), which makes lists.
 """
 import hashlib, os, subprocess, sys, tempfile, time
 

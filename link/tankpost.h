@@ -1,4 +1,4 @@
-/* Declarations for a C program that links target/staticlib/libtankpost.a (made by `rt staticlib tankpost`, x86-64).
+/* Declarations for a C program that links crates/tankpost/out/libtankpost.a (made by `rt lib` in crates/tankpost, x86-64).
    The structs are those of crates/flow, head, sender, codes and tankpost, field by field. */
 #ifndef TANKPOST_H
 #define TANKPOST_H

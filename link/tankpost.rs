@@ -1,4 +1,4 @@
-//! Declarations for a Rust program that links `target/staticlib/libtankpost.a` (made by `rt staticlib tankpost`), and the
+//! Declarations for a Rust program that links `crates/tankpost/out/libtankpost.a` (made by `rt lib` in crates/tankpost), and the
 //! calls over memory that the program holds. The structs are those of crates/flow, head, sender, codes and tankpost, field by field.
 //! For editions 2021 and 2024; Rust 1.82 or later.
 #![allow(dead_code)]

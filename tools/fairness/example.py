@@ -1,7 +1,7 @@
 #!/usr/bin/env python3
 """example.py: runs docs/FAIRNESS.md's example for the dairy and prints its numbers. No part of the gate.
 
-Wants `rt check shedtrial` and `rt staticlib tankpost` done, and cc. The answers are those of target/bin/shedtrial; the level
+Wants `rt run < /dev/null` done in crates/shedtrial and `rt lib` in crates/tankpost, and cc. The answers are those of the trial program; the level
 in force at each judgement, which the trial does not show, is read through the linked calls by levels.c, which must give the
 same answers. Want, fill and the bound of docs/FAIRNESS.md are computed here from these numbers; the script fails where a
 batch within both is told over share. tools/make_trial_list.py puts the same lists into the input of shedtrial that the gate
@@ -35,7 +35,7 @@ LISTS = [made(4), made(8)]
 
 def judgements(text, levels):
     """The dairy's batches: stamp, readings, answer, level in force, and the place of its call in the list."""
-    trial = os.path.join(ROOT, 'target', 'bin', 'shedtrial')
+    trial = os.path.join(ROOT, 'crates', 'shedtrial', 'out', 'shedtrial')
     answers = subprocess.run([trial], input=text.encode(), capture_output=True, check=True).stdout.decode().split('\n')
     read = subprocess.run([levels, DAIRY], input=text.encode(), capture_output=True, check=True).stdout.decode().split('\n')
     places = [i for i, line in enumerate(text.split('\n')) if line.startswith(f'J {DAIRY} ')]
@@ -87,7 +87,7 @@ def told(text, levels):
 def main():
     with tempfile.TemporaryDirectory() as folder:
         levels = os.path.join(folder, 'levels')
-        archive = os.path.join(ROOT, 'target', 'staticlib', 'libtankpost.a')
+        archive = os.path.join(ROOT, 'crates', 'tankpost', 'out', 'libtankpost.a')
         subprocess.run(['cc', '-O2', '-Wall', '-I', os.path.join(ROOT, 'link'), os.path.join(HERE, 'levels.c'), archive, '-o', levels], check=True)
         for text in LISTS:
             told(text, levels)
