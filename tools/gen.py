@@ -1,5 +1,6 @@
 #!/usr/bin/env python3
-"""Writes the tables of the crate fade: src/tables.rt, and for each table its test, proofs/TableA.antt and proofs/TableB.antt, and the answers to the
+"""Writes the tables of the crate fade: src/tables.rt, and for each table its test, proofs/DoublesA.antt and proofs/DoublesB.antt, what the
+test says of each row, proofs/TableA.antt and proofs/TableB.antt, and the answers to the
 goals of the function that picks a row, proofs/tables/row_of_a/Answers.antt and proofs/tables/row_of_b/Answers.antt.
 
 Usage: gen.py [ENTRIES_OF_B]     64 if none is given; `long` of specs/Fade.antt has to say the same number.
@@ -74,40 +75,52 @@ def tables_rt(a, b, long):
             + rt(a) + '\n' + rt(b))
 
 
-# ---- proofs/TableA.antt, proofs/TableB.antt
+# ---- proofs/DoublesA.antt, proofs/DoublesB.antt: the table and its test; proofs/TableA.antt, proofs/TableB.antt: what the test says of each row
 
 def listed(rows):
     return ''.join('    (%s []) ∷\n' % ' '.join('0x%016x ∷' % x for x in row) for row in rows) + '    []\n\n'
 
 
-def antt(t):
+def size_of(t):
+    return 'long' if t.size == 'spec.long' else t.size
+
+
+def doubles(t):
     ps = parts(t)
     starts = [t.width * sum(len(p) for p in ps[:i]) for i in range(len(ps))]
     several = len(ps) > 1
-    last = len(t.rows) - 1
-    size = 'long' if t.size == 'spec.long' else t.size
     test = 'in_rows (good least %d) width' % t.q
     s = '-- The table %s of src/tables.rt, the doubles nearest %s, and the one test of all its entries, which antt computes' % (t.name, t.what)
     s += ', in parts that each keep to the steps that a declaration may take' if several else ''
     s += '. Written by tools/gen.py. Assumes nothing.\n'
-    s += 'use mathlib.Core.Path.{◌≡◌, refl, subst}\nuse mathlib.Core.List.{List, [], ◌∷◌%s}\n' % (', ◌++◌' if several else '')
-    s += 'use Prim.Native.Nat.{ℕ, ◌+◌, ◌*◌, ◌/◌, ◌%◌, ◌<◌}\nuse native.Mathlib.Omega.{arith}\nuse lib.Dec.{T, lit<}\nuse lib.ListN.{length, get_or}\nuse lib.Ieee.{binary64, of_bits}\n'
-    s += 'use Rattle.fade.specs.Fade.{nearest%s}\n' % (', long' if size == 'long' else '')
-    s += 'use Rattle.fade.proofs.Table.{in_rows, %srow_at, at, None, past}\nuse Rattle.fade.proofs.Entries.{good, reads}\n\n' % ('joined, ' if several else '')
+    s += 'use mathlib.Core.List.{List, [], ◌∷◌%s}\n' % (', ◌++◌' if several else '')
+    s += 'use Prim.Native.Nat.{ℕ}\nuse lib.Dec.{T}\n'
+    s += 'use Rattle.fade.proofs.Table.{in_rows%s}\nuse Rattle.fade.proofs.Entries.{good}\n\n' % (', joined' if several else '')
     s += '-- each entry is at least 2 ^ -least\nabbrev pub least : ℕ\nleast = %d\n\n' % t.least
     s += '-- the entries of a row\nabbrev pub width : ℕ\nwidth = %d\n\n' % t.width
     names = ['rows'] if not several else ['part%d' % i for i in range(len(ps))]
     tests = ['tested'] if not several else ['tested%d' % i for i in range(len(ps))]
     for p, start, part, name in zip(ps, starts, names, tests):
         s += 'unfoldable pub %s : List (List ℕ)\n%s =\n%s' % (part, part, listed(p))
-        s += '%s : T (%s %d %s)\nunfolding good %s\n%s = tt\n\n' % (name, test, start, part, part, name)
+        s += '%s%s : T (%s %d %s)\nunfolding good %s\n%s = tt\n\n' % ('' if several else 'pub ', name, test, start, part, part, name)
     if several:
         whole, proof = names[-1], tests[-1]
         for i in range(len(ps) - 2, -1, -1):
             proof = 'joined (good least %d) width %d %s (%s) %s (%s)' % (t.q, starts[i], names[i], whole, tests[i], proof)
             whole = '%s ++ (%s)' % (names[i], whole)
         s += 'unfoldable pub rows : List (List ℕ)\nunfolding %s\nrows = %s\n\n' % (' '.join(names), whole)
-        s += 'tested : T (%s 0 rows)\nunfolding rows\ntested = %s\n\n' % (test, proof)
+        s += 'pub tested : T (%s 0 rows)\nunfolding rows\ntested = %s\n\n' % (test, proof)
+    return s[:-1]
+
+
+def antt(t):
+    size, last = size_of(t), len(t.rows) - 1
+    s = '-- What the test of the table %s says of each row, and of each entry. Written by tools/gen.py. Assumes nothing.\n' % t.name
+    s += 'use mathlib.Core.Path.{◌≡◌, refl, subst}\nuse mathlib.Core.List.{List, []}\n'
+    s += 'use Prim.Native.Nat.{ℕ, ◌+◌, ◌*◌, ◌/◌, ◌%◌, ◌<◌}\nuse native.Mathlib.Omega.{arith}\nuse lib.Dec.{T, lit<}\nuse lib.ListN.{length, get_or}\nuse lib.Ieee.{binary64, of_bits}\n'
+    s += 'use Rattle.fade.specs.Fade.{nearest%s}\n' % (', long' if size == 'long' else '')
+    s += 'use Rattle.fade.proofs.Table.{row_at, at, None, past}\nuse Rattle.fade.proofs.Entries.{good, reads}\n'
+    s += 'pub use Rattle.fade.proofs.Doubles%s.{least, width}\nunfoldable pub use Rattle.fade.proofs.Doubles%s.{rows}\nuse Rattle.fade.proofs.Doubles%s.{tested}\n\n' % (t.name, t.name, t.name)
     s += 'sized : width * length rows ≡ %s\nunfolding rows\nsized = refl\n\n' % size
     s += '-- every entry passes\nabbrev pub entry : ℕ → ℕ\nentry p = get_or (get_or rows (p / width) []) (p % width) 0\n\n'
     s += 'pub passes : (p : ℕ) → p < %s → T (good least %d p (entry p))\n' % (size, t.q)
@@ -148,6 +161,7 @@ def main():
     b = Table('B', 1, long, 4, 'spec.long', 1018)
     write('src/tables.rt', tables_rt(a, b, long))
     for t in (a, b):
+        write('proofs/Doubles%s.antt' % t.name, doubles(t))
         write('proofs/Table%s.antt' % t.name, antt(t))
         write('proofs/tables/%s/Answers.antt' % t.fn, answers(t))
 
