@@ -2,4 +2,5 @@
 pub mod Verdicts
 pub mod Laws
 mod Lacking
+mod Picked
 pub mod Says

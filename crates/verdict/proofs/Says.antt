@@ -24,6 +24,7 @@ use Rattle.verdict.specs.Rules.{lacking, credit_lacks, tokens_lack, reserve_lack
 use Rattle.verdict.specs.Says.{Lies, Says, question, Tells, Judges}
 use Rattle.verdict.proofs.Laws.{apart, wants, told}
 use Rattle.verdict.proofs.Lacking.{Before, lacking_all, lacking_found, found}
+use Rattle.verdict.proofs.Picked.{sided, picked_at}
 
 -- ---- a dimension and its place
 dim_small : (d : Dim) → dim_of d < dims
@@ -68,7 +69,7 @@ module _ (p : ℕ → Bool) where
 
 -- ---- the verdict, by what was asked: w within the level; c, t, r the credit, the tokens, the reserve lack
 by_tests : (c t w r : Bool) (wants mark part : Float) (d e f : Dim)
-    → verdict_of (cond c (Credit (cond w Within Over) d) (cond t (Tokens (cond w Within Over) e) (cond w (Admitted wants) (cond r (Reserve f mark part) (Admitted wants)))))
+    → verdict_of (cond c (Credit (sided w) d) (cond t (Tokens (sided w) e) (cond w (Admitted wants) (cond r (Reserve f mark part) (Admitted wants)))))
     ≡ cond w (within (not c) (not t)) (above (not c) (not t) (not r))
 by_tests true t true r wants mark part d e f = refl
 by_tests true t false r wants mark part d e f = refl
@@ -111,10 +112,7 @@ module _ (wants rank : Float) (credit : List Float) (bs : List Bucket) (cost : L
   left d = reserve_holds (bucket_at bs d) (at cost d) mark
 
   abbrev picked : (c t w r : Bool) → Rule
-  picked c t w r =
-      cond c (Credit (side_of wants) (dim_at (first covered)))
-      (cond t (Tokens (side_of wants) (dim_at (first tokened)))
-      (cond w (Admitted wants) (cond r (reserve_at bs cost mark (first left)) (Admitted wants))))
+  picked = picked_at wants mark bs cost (first covered) (first tokened) (first left)
 
   rule_is : rule_of wants rank credit bs cost ≡ picked (ltb (first covered) dims) (ltb (first tokened) dims) (Ieee.le wants one) (ltb (first left) dims)
   unfolding rule_of reserved credit_lacks tokens_lack reserve_lacks
@@ -124,7 +122,7 @@ module _ (wants rank : Float) (credit : List Float) (bs : List Bucket) (cost : L
   unfolding side_of
   lies = go (Ieee.le wants one) refl
     where
-      go : (b : Bool) → Ieee.le wants one ≡ b → Lies wants rank credit bs cost (cond b Within Over)
+      go : (b : Bool) → Ieee.le wants one ≡ b → Lies wants rank credit bs cost (sided b)
       go true e = e
       go false e = e
 
