@@ -211,8 +211,8 @@ at_zero : (q : ℕ) (x : Float) → 0 < q → fin false 1 (pos 0) ≡ x → Near
 at_zero q x Q e =
     subst (Nearest 0 q) e
     (record {
-      up = λ y F Y l. (1, subst (λ (t : ℕ). bot q 1 * (1 * den y * 2) < (1 * den y + num y * 1) * t) (sym (top_zero q 1)) (scale (bot q 1) (1 * den y * 2) (1 * den y + num y * 1) (bot_pos q 1 Q) (omega arith)));
-      down = λ y F Y l. (1, zero-le, subst (λ (t : ℕ). (1 * den y + num y * 1) * t < bot q 1 * (1 * den y * 2)) (sym (cap_zero q)) (scale' (bot q 1) (1 * den y * 2) (1 * den y + num y * 1) (bot_pos q 1 Q) (omega arith)));
+      up = λ y F Y l. (1, rw (top_zero q 1) (scale _ _ _ (bot_pos q 1 Q) (omega arith)));
+      down = λ y F Y l. (1, zero-le, rw (cap_zero q) (scale' _ _ _ (bot_pos q 1 Q) (omega arith)));
     })
   where
     scale : (b c d : ℕ) → 0 < b → c < d → b * c < d * b
@@ -229,13 +229,13 @@ rounded_nearest (suc p) q x Q N r =
     record {
       up = λ y F Y l. (
         suc n,
-        under_strict (suc p) q n (num x * den y + num y * den x) (den x * den y * 2) Q (zero-lt-suc p) (mul-pos (mul-pos (den_pos x) (den_pos y)) (lit< tt))
+        under_strict (suc p) q n _ _ Q (zero-lt-suc p) (mul-pos (mul-pos (den_pos x) (den_pos y)) (lit< tt))
             (le_trans (mul-le-mul_left (bot q n) (mul-le-mul_left (den x * den y) (lit≤ tt))) (round_up binary64 x y (bot q n) (top (suc p) q n) (top_pos (suc p) q n Q) r.above N r.high F Y l)),
       );
       down = λ y F Y l. (
         suc (suc n),
         later (suc p) q (suc n) (later (suc p) q n r.late),
-        over_strict (suc p) q n (num x * den y + num y * den x) (den x * den y * 2) Q (zero-lt-suc p) (lt_of_lt_of_le (lt_of_le_of_lt zero-le l) (le-add_right (num x * den y) (num y * den x))) r.late
+        over_strict (suc p) q n _ _ Q (zero-lt-suc p) (lt_of_lt_of_le (lt_of_le_of_lt zero-le l) (le-add_right (num x * den y) (num y * den x))) r.late
             (le_trans (round_down binary64 x y (bot q n) (cap (suc p) q n) (cap_pos (suc p) q n Q) r.above N r.low F Y l) (mul-le-mul_left (bot q n) (mul-le-mul_left (den x * den y) (lit≤ tt)))),
       );
     }
