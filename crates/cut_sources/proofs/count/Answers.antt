@@ -27,4 +27,3 @@ returns-then-i-n-clause-upper_bound c = search rules
 pub returns-clause-upper_bound : goal.returns-clause-upper_bound
 unfolding count count_tags
 returns-clause-upper_bound c = search rules
-

@@ -33,4 +33,3 @@ returns-then-k-total_at-clause-upper_bound c = search rules
 pub returns-clause-upper_bound : goal.returns-clause-upper_bound
 unfolding prune_one tag_moved
 returns-clause-upper_bound c = search rules
-

@@ -27,4 +27,3 @@ returns-in-OverShare-clause-value c = search rules
 pub returns-in-RelayRate-clause-value : goal.returns-in-RelayRate-clause-value
 unfolding answer_of judge_number
 returns-in-RelayRate-clause-value c = search rules
-

@@ -19,7 +19,7 @@ loop-k-preserved c = (
   search rules,
   c.loop-k.invariant.2,
   elim c.if-lower-low.branch [
-    then-lower-low w ↦ λ f. absurd (true≢false (sym w.met-is ∙ f))
+    | then-lower-low w ↦ λ f. absurd (true≢false (sym w.met-is ∙ f))
     | else-lower-low w ↦ λ f. none_more _ _ _ (c.loop-k.invariant.3 (sym w.met-is ∙ f))
         (ne_eqb _ _ (λ q. w.if-lower-low.false (c.lower.ensures ∙ ap lower (c.table_at.ensures ∙ q) ∙ sym c.loop-k.invariant.2)))
   ],

@@ -18,7 +18,7 @@ loop-k-preserved c = (
   search rules,
   search rules,
   elim c.if-tags-i.branch [
-    then-tags-i w ↦ λ f. absurd (true≢false (sym w.met-is ∙ f))
+    | then-tags-i w ↦ λ f. absurd (true≢false (sym w.met-is ∙ f))
     | else-tags-i w ↦ λ f. none_more _ _ _ (c.loop-k.invariant.2 (sym w.met-is ∙ f)) (ne_eqb _ _ w.if-tags-i.false)
   ],
 )
