@@ -3,7 +3,7 @@
 
 usage: make_wants_list.py ORACLE > crates/check_wants/stdin
 
-ORACLE is the folder in which the oracle was built (with src/shed.rs, standin.rs, tables.rs and group.rs).
+ORACLE is the folder in which the oracle was built (with src/shed.rs, standin.rs, tables.rs, group.rs and key.rs).
 The histogram and its level are those of the oracle's shed.rs; the bucket is its stand-in of document 01's rule.
 
 Lines, all numbers decimal, a double as its bit pattern (one pattern for every not-a-number):
@@ -21,6 +21,7 @@ import tempfile
 
 MAIN = """#![allow(dead_code)]
 mod group;
+mod key;
 mod shed;
 mod standin;
 mod tables;
@@ -178,7 +179,7 @@ def main():
         sys.exit(__doc__)
     source = os.path.join(sys.argv[1], "src")
     with tempfile.TemporaryDirectory() as folder:
-        for name in ("group.rs", "standin.rs", "tables.rs"):
+        for name in ("group.rs", "key.rs", "standin.rs", "tables.rs"):
             shutil.copy(os.path.join(source, name), folder)
         with open(os.path.join(source, "shed.rs")) as shed, open(os.path.join(folder, "shed.rs"), "w") as out:
             out.write(shed.read() + LISTING)
