@@ -10,7 +10,7 @@ use borrow.Author.Tests.{eq-eqb, ne_eqb}
 use lib.Dec.{eqb}
 use lib.ListN.{length, get_or}
 use Rattle.report_ranking.specs.Sources.{precedes, is_after, earlier, better, first_after, named, SOURCES_REPORTED, reported}
-use Rattle.report_ranking.specs.Laws.{Front, Naming}
+use Rattle.report_ranking.specs.Laws.{Front}
 use Rattle.report_ranking.proofs.Ordering.{order}
 
 -- b is the earliest of those among the first m that come after p, or n where none does
@@ -179,6 +179,3 @@ pub front : (rows : List (List ℕ)) (n : ℕ) → Front rows n 16 (reported row
 front rows n =
     let w = from rows n SOURCES_REPORTED n in
     record { few = w.few; held = w.held; ordered = w.ordered; left_out = λ i h f. w.left_out i h (all_after rows n i) f }
-
-pub naming : Naming
-naming = record { order = order; front = front }
