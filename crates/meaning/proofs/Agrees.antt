@@ -1,8 +1,8 @@
 -- The calls of the page are those of the contracts. Assumes nothing.
 use mathlib.Core.Path.{◌≡◌, refl}
-use mathlib.Core.Bool.{Bool, true, false, cond, not, ◌&&◌}
+use mathlib.Core.Bool.{Bool, true, false, cond}
 use mathlib.Core.List.{List, [], ◌∷◌, ◌++◌}
-use Prim.Native.Nat.{ℕ, max}
+use Prim.Native.Nat.{ℕ}
 use lib.Dec.{eqb, leb}
 use lib.ListN.{length, get_or, drop}
 use Rattle.flow.specs.Flow.{numbers}
@@ -13,15 +13,12 @@ use Rattle.head.specs.declared.Cause.{Cause}
 use Rattle.flow.specs.declared.Dim.{Dim}
 use Rattle.head.specs.declared.Begin.TheVariants as begin
 use Rattle.head.specs.declared.Answer.TheVariants as answer
-use Rattle.head.specs.declared.Ruling.{Ruling}
-use Rattle.head.specs.declared.Ruling.TheVariants as ruling
 use Rattle.head.specs.declared.Done.TheVariants as done
 use Rattle.head.specs.declared.Written.TheVariants as written
 use Rattle.head.specs.Questions as asked
 use Rattle.head.specs.Start as starts
 use Rattle.head.specs.Readings as readings
 use Rattle.head.specs.Readings.{index_of}
-use Rattle.cut_counts.specs.Counting as counting
 use Rattle.judge.specs.Judging as judging
 use Rattle.judge.specs.Judging.{Memory, judge_ends}
 use Rattle.cut.specs.Cutting as cutting
@@ -31,12 +28,8 @@ use Rattle.meaning.specs.State.{after, ask}
 use Rattle.meaning.specs.Page as page
 use Rattle.meaning.specs.Agrees.{of, started, judged, cut, start_with, report_with, front_with, asked_with, Agrees}
 use Rattle.meaning.proofs.Asked.{unbounded_is, rates_is, stamp_is, costs_is, head_is, memory_is, sizes_is}
-use Rattle.meaning.proofs.Scanned.{scanned_is}
-use Rattle.meaning.proofs.Judged.{judged_is, ruled_is, passed, counted_is, told_is, tallied, tally_of, handed_is, kept}
-
--- question 4, as the contracts ask it
-abbrev memory_whole : Shedder → Memory → Bool
-memory_whole h m = asked.memory_whole h (length m.rows.tags) (length m.rows.units) (length m.rows.uses) (length m.counted)
+use Rattle.meaning.proofs.Judged.{counted_is, handed_is, kept}
+use Rattle.meaning.proofs.Bounded.{memory_whole, bounded_is, rule_is, hands_is}
 
 -- ---- start
 start_is : (h : Shedder) (m : Memory) (rate ceiling : List ℕ) → page.start (of h m) rate ceiling ≡ started m (start_with h m rate ceiling)
@@ -49,15 +42,6 @@ start_is h m rate ceiling = rw (rates_is rate, sizes_is (of h m)) (go (asked.rat
     go false b x = refl
 
 -- ---- judge
-bounded_is : (h : Shedder) (m : Memory) (u : Unit) (cost : List ℕ) (stamp : ℕ) → page.bounded (of h m) u cost stamp ≡ judged (judging.bounded h m u cost stamp)
-unfolding page.bounded page.clock_by judging.bounded
-bounded_is h m u cost stamp =
-    let clock = max stamp h.flow.at_ms in
-    let p = judging.judged h m.rows u (numbers cost) clock in
-    let s = (passed (of h m) p).state in
-    let t = tallied s (counting.count_verdict (tally_of s) (name_of u) p.verdict cost) in
-    rw (judged_is (of h m) u (numbers cost) clock, told_is s (name_of u) p.verdict cost, scanned_is t clock) refl
-
 judge_is : (h : Shedder) (m : Memory) (u : Unit) (cost : List ℕ) (stamp : ℕ) → page.judge (of h m) u cost stamp ≡ judged (judging.judge h m u cost stamp)
 unfolding page.judge page.judge_asks judging.judge asked.judge_asked
 judge_is h m u cost stamp =
@@ -74,29 +58,7 @@ judge_is h m u cost stamp =
     go true false c d e x = refl
     go false b c d e x = refl
 
-rule_is : (h : Shedder) (m : Memory) (u : Unit) (cost : List ℕ) (stamp : ℕ) → page.judge_rule (of h m) u cost stamp ≡ judging.ruling h m u cost stamp
-unfolding page.judge_rule page.judge_asks page.clock_by judging.ruling judging.bounded_ruling asked.judge_asked
-rule_is h m u cost stamp =
-    let s = of h m in
-    rw (head_is h, memory_is s, costs_is cost, stamp_is stamp, unbounded_is h.flow.rate, ruled_is s u (numbers cost) (max stamp h.flow.at_ms))
-    (go (asked.head_whole h) (memory_whole h m) (asked.costs_held cost) (asked.is_stamp stamp) _)
-  where
-    go : (a b c d : Bool) (x : Ruling) → ask ((3, a) ∷ (4, b) ∷ (5, c) ∷ (6, d) ∷ []) (λ n. ruling.Refused) x ≡ cond (eqb (cond a (cond b (cond c (cond d 0 6) 5) 4) 3) 0) x ruling.Refused
-    go true true true true x = refl
-    go true true true false x = refl
-    go true true false d x = refl
-    go true false c d x = refl
-    go false b c d x = refl
-
 -- ---- cut
-hands_is : (rate : List ℕ) (c : Cause) → (not (asked.is_unbounded rate) && eqb (index_of c) 0) ≡ cutting.hands_back rate c
-unfolding cutting.hands_back
-hands_is rate c = go (asked.is_unbounded rate) (eqb (index_of c) 0)
-  where
-    go : (a b : Bool) → (not a && b) ≡ cond a false b
-    go true b = refl
-    go false b = refl
-
 cut_is : (h : Shedder) (m : Memory) (u : Unit) (c : Cause) (cost : List ℕ) → page.cut (of h m) u c cost ≡ cut m.hist (cutting.cut h m.rows m.counted u c cost)
 unfolding page.cut cutting.cut cutting.noted asked.cut_asked
 cut_is h m u c cost =
