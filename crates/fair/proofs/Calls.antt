@@ -46,6 +46,7 @@ use Rattle.fair.proofs.Cutting as cutting
 use Rattle.fair.proofs.Outcome.{numbers_priced}
 use Rattle.fair.proofs.Level.{valued}
 use Rattle.fair.proofs.Begun.{by_dim, fill_lawful, left_tied}
+use Rattle.fair.proofs.Stepped.{judge_step}
 
 -- ---- a refused call leaves head and memory
 pub verdict_taken : (v : Verdict) → ltb 0 (goal.judge_number (goal.answer_of v)) ≡ false
@@ -158,11 +159,7 @@ module _ (room : ℕ) (rate ceiling : List ℕ) (rates : goal.all_rates rate ≡
 
     step_tied : (c : Call) → calls.refused s c ≡ false → Tie (calls.step s c) (see s c ∷ ms)
     unfolding model.store clock
-    step_tied (Judge u cost t) f =
-        let h = s.head in
-        let m = s.memory in
-        subst (λ (k : ℕ). Tied room rate (goal.judge h m u cost t).head (goal.judge h m u cost t).memory.rows (model.step Name same shares room (store_of ms) k (judging.judge_call room rate h m u cost t)) (max t k)) b.clock_is
-        (judging.judge_tied room rate rates h m (store_of ms) at_clock u cost t f)
+    step_tied (Judge u cost t) f = judge_step room rate rates s (store_of ms) (clock stamp ms) b u cost t f
     step_tied (Cut u c cost) f =
         let j = goal.cut s.head s.memory.rows s.memory.counted u c cost in
         subst (λ (k : ℕ). Tied room rate j.head j.rows (model.step Name same shares room (store_of ms) (clock stamp ms) (cutting.cut_call room rate c u cost)) k)

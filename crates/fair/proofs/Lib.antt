@@ -1,12 +1,14 @@
--- One bucket and one record. Floats: the operations in units. Runs: the clock, and histories seen as other histories. Tokens: the bound on a bucket. Held: a record, call by call.
--- Credit: the bound on a record. Spared: no over share. Level: a stored level gives a lawful fill.
+-- One bucket and one record. Floats: the operations in units. Runs: the clock, and histories seen as other histories. Tokens: the bound on a bucket. Paying: a cost taken off. Held: a record, call by call.
+-- Weighing: the numbers of a judgement. Credit: the bound on a record. Spared: no over share. Level: a stored level gives a lawful fill.
 -- The model of the store. Demand: all dimensions, one record. Rows: rows found by a name. Store: the demand over the model. Bridge: `verdict::judged` is the model's judgement. Example: document 01's run.
 -- The real definitions. View: the lent rows as the model's. Sweep, Back, Find: a pass, a put, a search. Entry: the record that a call uses. Tied: the tie, kept by a scan. Outcome, Judging: a judgement.
--- Cutting: a cut. Begun: a start. Calls: DEMAND 3, of every list of calls. Steady, Lasting: no list leaves a state that refuses.
+-- Cutting: a cut. Begun: a start. Stepped: a judgement of the list. Calls: DEMAND 3, of every list of calls. Steady, Lasting: no list leaves a state that refuses.
 pub mod Floats
 pub mod Runs
 pub mod Tokens
+pub mod Paying
 pub mod Held
+pub mod Weighing
 pub mod Credit
 pub mod Spared
 pub mod Level
@@ -25,6 +27,7 @@ pub mod Outcome
 pub mod Judging
 pub mod Cutting
 pub mod Begun
+pub mod Stepped
 pub mod Calls
 pub mod Spans
 pub mod Steady
