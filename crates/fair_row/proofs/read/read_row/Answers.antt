@@ -28,8 +28,8 @@ returns-then-which-eq3 c =
 
 pub returns : goal.returns
 returns c =
-    let e = (ne_eqb _ 2 c.if-which-eq2.false) in
-    let f = (ne_eqb _ 3 c.if-which-eq3.false) in
+    let e = ne_eqb _ 2 c.if-which-eq2.false in
+    let f = ne_eqb _ 3 c.if-which-eq3.false in
     let s : Hist → State = λ g. held_with g c.args.head c.args.tags.now c.args.units.now c.args.uses.now c.args.counted.now in
     record {
       value = (λ g. head_is (s g) _ _ _ e f (c.head_read.ensures (s g).memory));
