@@ -253,7 +253,7 @@ pub record Valued (x : Float) : Type 0 where
   pub exact : HasValue x false (units x) (power 1074)
 
 -- ---- THE DEMAND, of every list of calls h, every run of n = suc k calls, every dimension, from the state `first` that a start at these rates left.
--- In whole numbers: T in milliseconds, fills in units of 2 ^ -1074, all times 256000, which is 1000 * parts, and times 2 ^ 1074 where a fill stands; most-depth and least-depth are 4000 (specs/Bounds)
+-- In whole numbers: T in milliseconds, fills in units of 2 ^ -1074, all times 256000, which is 1000 * parts, and times 2 ^ 1074 where a fill stands; most_depth and least_depth are 4000 (specs/Bounds)
 pub record Demand (rate ceiling : List ℕ) (first : State) : Type 0 where
   -- admitted cost ≤ burst + rate * T + handed back + n / 256
   pub relay : (h : List Call) (d : ℕ) → d < dims → (k : ℕ)
