@@ -1,7 +1,9 @@
--- Laws of `feed`: bytes fed in two parts, the hash is below 2^64, and a slice fed byte by byte.
-use Rattle.std.proofs.Common.{◌≡◌, ℕ, ◌+◌, ◌*◌, ◌^◌, ◌<◌, ◌≤◌, List, [], ◌∷◌, ◌++◌, length, get_or, drop, refl, mod-lt, add-one, lit<, drop_of_length-le, drop-cons, pow_pos}
+-- Laws of `feed`: bytes fed in two parts, the hash is below 2^64, and `feed` and `big_endian` in the forms that code has.
+use Rattle.std.proofs.Common.{◌≡◌, ℕ, zero, suc, ◌*◌, ◌/◌, ◌%◌, ◌^◌, ◌<◌, List, [], ◌∷◌, ◌++◌, refl, ap, div-one, mod-lt, lit<, pow_pos}
+use Rattle.std.specs.List.{fold}
+use Rattle.std.specs.Int.{bytes_high_first}
 use lib.Bits.{bit_xor}
-use Rattle.fnv.specs.Fnv.{fed, feed, fnv1a, offset_basis, prime}
+use Rattle.fnv.specs.Fnv.{fed, feed, fnv1a, big_endian, offset_basis, prime}
 
 pub feed_append : (hash : ℕ) (xs ys : List ℕ) → feed hash (xs ++ ys) ≡ feed (feed hash xs) ys
 unfolding feed
@@ -21,12 +23,15 @@ pub fnv1a_below : (bytes : List ℕ) → fnv1a bytes < 2 ^ 64
 unfolding fnv1a
 fnv1a_below bytes = feed_below offset_basis bytes (lit< tt)
 
--- ---- a slice fed byte by byte
+-- ---- in the forms that code has
 
-pub fed_next : (hash i : ℕ) (bytes : List ℕ) → i < length bytes → feed (fed hash (get_or bytes i 0)) (drop (i + 1) bytes) ≡ feed hash (drop i bytes)
+pub feed_is_fold : (hash : ℕ) (bytes : List ℕ) → feed hash bytes ≡ fold (λ hash byte. fed hash byte) hash bytes
 unfolding feed
-fed_next hash i bytes h = rw (add-one, drop-cons bytes i 0)
+feed_is_fold hash [] = refl
+feed_is_fold hash (x ∷ xs) = feed_is_fold (fed hash x) xs
 
-pub fed_all : (hash i : ℕ) (bytes : List ℕ) → length bytes ≤ i → hash ≡ feed hash (drop i bytes)
-unfolding feed
-fed_all hash i bytes h = rw (drop_of_length-le bytes h)
+pub big_endian_is : (n word : ℕ) → big_endian n word ≡ bytes_high_first n word
+unfolding big_endian
+big_endian_is zero word = refl
+big_endian_is (suc zero) word = rw div-one refl
+big_endian_is (suc (suc n)) word = ap (λ (bytes : List ℕ). word / 256 ^ suc n % 256 ∷ bytes) (big_endian_is (suc n) word)

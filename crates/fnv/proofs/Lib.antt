@@ -1,4 +1,3 @@
--- Basis: where the offset basis is from. Multiplying: a product modulo 2^64 by halves. Feeding: laws of `feed`.
+-- Basis: where the offset basis is from. Feeding: laws of `feed`.
 pub mod Basis
-pub mod Multiplying
 pub mod Feeding
