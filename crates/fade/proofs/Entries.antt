@@ -1,11 +1,9 @@
 -- The test of a table's entry, which antt computes, and what an entry that passes it is. Assumes nothing.
 use mathlib.Core.Path.{◌≡◌, refl, sym, ap, ap₂, ◌∙◌, subst}
 use mathlib.Core.Bool.{Bool, false, not}
-use mathlib.Core.List.{List}
-use Prim.Native.Nat.{ℕ, zero, suc, ◌+◌, ◌*◌, ◌/◌, ◌%◌, ◌^◌, ◌≤◌, ◌<◌}
-use native.Mathlib.Nat.{add-zero, add-suc, suc-add, zero-add, pow-suc, pow-zero, div-add-mod, mod-lt}
+use Prim.Native.Nat.{ℕ, zero, suc, ◌+◌, ◌*◌, ◌^◌, ◌≤◌}
+use native.Mathlib.Nat.{add-zero, add-suc, suc-add, zero-add, pow-suc, pow-zero}
 use lib.Dec.{T, leb, eqb, leb→le, eqb→eq}
-use lib.ListN.{get_or}
 use lib.Ieee.{Float, nan, inf, fin, binary64, round, to_bits, of_bits, is_nan, nan_bits}
 use lib.Ieee.Fits.{round-fits}
 use lib.Ieee.Bits.{of_bits-to_bits, nan_bits_is}
@@ -121,10 +119,6 @@ reads k q p w h = sym (entry k q p w h).rounded.low
 pub entry_at : (k q p w : ℕ) → T (good k q p w) → Entry k q p (nearest p q)
 entry_at k q p w h = subst (Entry k q p) (reads k q p w h) (entry k q p w h)
 
--- ---- the entry p of a table that stands in rows of w is entry p % w of the row p / w
-pub in_row : (w q p : ℕ) (row : List ℕ) → 0 < w → ((j : ℕ) → j < w → of_bits binary64 (get_or row j 0) ≡ nearest (w * (p / w) + j) q) → of_bits binary64 (get_or row (p % w) 0) ≡ nearest p q
-in_row w q p row z h = h (p % w) (mod-lt p z) ∙ ap (λ (m : ℕ). nearest m q) (div-add-mod p w)
-
 -- ---- no pattern of it is a NaN's
 pub positive_number : (x : Float) → T (positive x) → T (not (is_nan x))
 unfolding is_nan
@@ -132,5 +126,5 @@ positive_number nan p = absurd p
 positive_number (inf s) p = tt
 positive_number (fin s m e) p = tt
 
-pub no_nan : (k q p w v : ℕ) → T (good k q p w) → of_bits binary64 v ≡ nearest p q → T (not (nan_bits binary64 v))
-no_nan k q p w v h e = subst (λ (b : Bool). T (not b)) (sym (nan_bits_is binary64 v)) (rw e (positive_number (nearest p q) (entry_at k q p w h).rounded.above))
+pub no_nan : (k q p w : ℕ) → T (good k q p w) → T (not (nan_bits binary64 w))
+no_nan k q p w h = subst (λ (b : Bool). T (not b)) (sym (nan_bits_is binary64 w)) (positive_number (of_bits binary64 w) (entry k q p w h).rounded.above)

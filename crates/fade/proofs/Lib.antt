@@ -1,7 +1,4 @@
 pub mod Entries
 pub mod Sides
 pub mod Table
-pub mod DoublesA
-pub mod DoublesB
-pub mod TableA
-pub mod TableB
+pub mod Tested

@@ -1,7 +1,9 @@
 // The fade: exp(-d / WINDOW_MS) after d milliseconds, as the rounded product of two entries, one of each table. From the end of the tables on it is 0.
 #![tactic(auto)]
 
-ghost use Rattle.std.specs.Prelude.{◌≡◌, ◌<◌};
+ghost use Rattle.std.specs.Prelude.{◌≡◌, ◌<◌, length, slice_index};
+ghost use Rattle.std.specs.Float.{NotNanBits, binary64};
+ghost use Rattle.std.specs.Float.Ieee.{of_bits};
 ghost use Rattle.fade.specs.Fade as spec;
 
 mod tables;
@@ -9,29 +11,22 @@ mod tables;
 // The span of stamps that a rate is measured over: a sum fades to 1 / e in it.
 pub const WINDOW_MS: u64 = 2000;
 
-// Entry r of A: the double nearest exp(-r / WINDOW_MS).
-fn short(r: u64) -> f64
-    requires { r < spec.WINDOW_MS }
-    ensures { result ≡ spec.nearest r spec.WINDOW_MS }
+// Entry p of a table.
+fn entry(table: &[u64], p: u64) -> f64
+    requires inside { p < length table.now }
+    requires number { NotNanBits binary64 (slice_index table.now p) }
+    ensures { result ≡ of_bits binary64 (slice_index table.now p) }
 {
-    let row = tables::row_of_a(r / tables::WIDTH_A);
-    f64::from_bits(row[(r % tables::WIDTH_A) as usize])
-}
-
-// Entry q of B: the double nearest exp(-q).
-fn far(q: u64) -> f64
-    requires { q < spec.long }
-    ensures { result ≡ spec.nearest q 1 }
-{
-    let row = tables::row_of_b(q / tables::WIDTH_B);
-    f64::from_bits(row[(q % tables::WIDTH_B) as usize])
+    f64::from_bits(table[p as usize])
 }
 
 pub fn fade(d: u64) -> f64
     ensures { result ≡ spec.fade d }
 {
     if d < tables::END {
-        short(d % WINDOW_MS) * far(d / WINDOW_MS)
+        let short = entry(&tables::A, d % WINDOW_MS);
+        let far = entry(&tables::B, d / WINDOW_MS);
+        short * far
     } else {
         0.0
     }

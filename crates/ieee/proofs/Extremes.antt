@@ -2,9 +2,9 @@
 use mathlib.Core.Path.{◌≡◌, refl, sym, ap, ◌∙◌}
 use Prim.Native.Nat.{ℕ, ◌+◌, ◌*◌, min, max}
 use native.Mathlib.Omega.{arith}
-use mathlib.Core.Bool.{Bool, true, false, cond, true≢false}
+use mathlib.Core.Bool.{Bool, true, false, ◌||◌, cond, true≢false}
 use lib.Dec.{eqb}
-use lib.Ieee.{Float, nan, inf, fin, up, down, below, level, eq, ne, lt}
+use lib.Ieee.{Float, nan, inf, fin, up, down, below, level, eq, ne, lt, is_nan}
 use borrow.Author.Tests.{eqb-true, eq-eqb, le-ltb}
 use Rattle.ieee.specs.Units.{Amount, Is}
 use Rattle.ieee.specs.Extremes.{least, most, clamped}
@@ -12,18 +12,24 @@ use Rattle.ieee.proofs.Tests.{both_yes}
 use Rattle.ieee.proofs.Order.{recount, lt_test, min_is, max_is}
 
 -- ---- a not-a-number: it alone is unequal to itself, and it is neither below nor above any value
-abbrev is_nan : Float → Bool
-is_nan nan = true
-is_nan (inf s) = false
-is_nan (fin s m e) = false
-
 unequal_itself : (x : Float) → ne x x ≡ is_nan x
-unfolding ne eq
+unfolding ne eq is_nan
 unequal_itself nan = refl
 unequal_itself (inf true) = refl
 unequal_itself (inf false) = refl
 unequal_itself (fin true m e) = rw (eq-eqb (m * up e * down e) (m * up e * down e) refl)
 unequal_itself (fin false m e) = rw (eq-eqb (m * up e * down e) (m * up e * down e) refl)
+
+-- as the code tests
+either_test : (p q : Bool) (x y : Float) → cond p y (cond q y x) ≡ cond (p || q) y x
+either_test true q x y = refl
+either_test false q x y = refl
+
+pub least_by_tests : (x y : Float) → least x y ≡ cond (is_nan x || lt y x) y x
+least_by_tests x y = rw (unequal_itself x) (either_test (is_nan x) (lt y x) x y)
+
+pub most_by_tests : (x y : Float) → most x y ≡ cond (is_nan x || lt x y) y x
+most_by_tests x y = rw (unequal_itself x) (either_test (is_nan x) (lt x y) x y)
 
 below_nan : (x : Float) → lt x nan ≡ false
 unfolding lt
@@ -37,22 +43,26 @@ above_nan x = refl
 
 -- with one, `min` and `max` give the other
 pub least_of_nan : (x : Float) → (least nan x ≡ x) × (least x nan ≡ x)
+unfolding is_nan
 least_of_nan nan = rw (unequal_itself nan) (refl, refl)
 least_of_nan (inf s) = rw (unequal_itself nan, unequal_itself (inf s), above_nan (inf s)) (refl, refl)
 least_of_nan (fin s m e) = rw (unequal_itself nan, unequal_itself (fin s m e), above_nan (fin s m e)) (refl, refl)
 
 pub most_of_nan : (x : Float) → (most nan x ≡ x) × (most x nan ≡ x)
+unfolding is_nan
 most_of_nan nan = rw (unequal_itself nan) (refl, refl)
 most_of_nan (inf s) = rw (unequal_itself nan, unequal_itself (inf s), below_nan (inf s)) (refl, refl)
 most_of_nan (fin s m e) = rw (unequal_itself nan, unequal_itself (fin s m e), below_nan (fin s m e)) (refl, refl)
 
 -- so they give one only of two
 some : {x : Float} → is_nan x ≡ true → x ≡ nan
+unfolding is_nan
 some {x = nan} e = refl
 some {x = inf s} e = absurd (true≢false (sym e))
 some {x = fin s m d} e = absurd (true≢false (sym e))
 
 told : {x : Float} → x ≡ nan → is_nan x ≡ true
+unfolding is_nan
 told e = ap is_nan e
 
 -- a pick between y, where it compares, and x is none where x is none
@@ -92,7 +102,7 @@ level_below false true a b e =
     (refl, le-ltb 0 (b + a) (omega arith))
 
 equal_below : (x y : Float) → eq x y ≡ true → (is_nan x ≡ false) × ((lt x y ≡ false) × (lt y x ≡ false))
-unfolding eq lt
+unfolding eq lt is_nan
 equal_below nan y e = absurd (true≢false (sym e))
 equal_below (inf s) nan e = absurd (true≢false (sym e))
 equal_below (inf true) (inf true) e = (refl, (refl, refl))
@@ -116,6 +126,7 @@ clamped_nan low high = rw (above_nan low, below_nan high)
 
 -- ---- amounts, in units
 not_nan : (x : Float) → Amount x → ne x x ≡ false
+unfolding is_nan
 not_nan nan a = absurd a.sign
 not_nan (inf s) a = absurd a.sign
 not_nan (fin s m e) a = unequal_itself (fin s m e)

@@ -1,14 +1,13 @@
 -- What is known of a result that is rounded once, and so of each operation on amounts: how far it is off, its order, where it is exact, and what it cannot cross.
 -- Assumes nothing.
 use mathlib.Core.Path.{◌≡◌, refl, sym, ap, ◌∙◌, subst}
-use Prim.Native.Nat.{ℕ, suc, ◌+◌, ◌-◌, ◌*◌, ◌^◌, ◌≤◌, ◌<◌}
+use Prim.Native.Nat.{ℕ, suc, ◌+◌, ◌-◌, ◌*◌, ◌≤◌, ◌<◌}
 use native.Mathlib.Nat.{le_trans, le_of_eq, le_of_lt, lt_of_lt_of_le, mul-le-mul_right, le_of_mul-le-mul_right, lt_of_mul-lt-mul_right, eq-or-lt_of_le, mul-le-mul, le_of_suc-le-suc, lt_of_not-le}
 use native.Mathlib.Omega.{arith}
 use mathlib.Core.Logic.{◌⊎◌, inl, inr}
 use lib.IntN.{pos}
 use lib.Dec.{lit≤}
 use lib.Ieee.{Float, binary64, add, sub, mul, div, of_int}
-use lib.Ieee.Scale.{grid}
 use Rattle.ieee.specs.Units.{power, units, rounded, Amount, Is, Rounds, Near, Within, Digits, OnGrid}
 use Rattle.ieee.proofs.Power.{power_mono, power_suc, power_add, grid_sub}
 use Rattle.ieee.proofs.Rounding.{rounded_relative, rounded_mono}

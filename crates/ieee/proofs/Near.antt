@@ -15,7 +15,7 @@ use lib.Ieee.Bits.{cond_no}
 use lib.Ieee.Order.{drop, kept}
 use lib.Ieee.Exact.{HasValue}
 use lib.Ieee.Scale.{round_val, grid, overflow}
-use Rattle.ieee.specs.Units.{power, units, rounded, Is, Rounds, Near, Digits, OnGrid}
+use Rattle.ieee.specs.Units.{power, rounded, Is, Rounds, Near, Digits, OnGrid}
 use Rattle.ieee.proofs.Power.{power_pos, power_mono, power_lt, power_add, power_split, power_zero}
 use Rattle.ieee.proofs.Rounding.{rounded_near, rounded_exact, rounded_most, rounded_least}
 use Rattle.ieee.proofs.Value.{value_amount}
