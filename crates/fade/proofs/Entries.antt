@@ -1,16 +1,15 @@
 -- The test of a table's entry, which antt computes, and what an entry that passes it is. Assumes nothing.
 use mathlib.Core.Path.{◌≡◌, refl, sym, ap, ap₂, ◌∙◌, subst}
-use mathlib.Core.Bool.{Bool, false, not}
+use mathlib.Core.Bool.{Bool, false, not, ◌&&◌}
 use Prim.Native.Nat.{ℕ, zero, suc, ◌+◌, ◌*◌, ◌^◌, ◌≤◌}
 use native.Mathlib.Nat.{add-zero, add-suc, suc-add, zero-add, pow-suc, pow-zero}
 use lib.Dec.{T, leb, eqb, leb→le, eqb→eq}
 use lib.Ieee.{Float, nan, inf, fin, binary64, round, to_bits, of_bits, is_nan, nan_bits}
-use lib.Ieee.Fits.{round-fits}
+use lib.Ieee.Fits.{round-fits, and_l, and_r}
 use lib.Ieee.Bits.{of_bits-to_bits, nan_bits_is}
 use lib.Ieee.Positive.{num, den, positive}
 use Rattle.fade.specs.Exp.{top, bot, cap, terms, Late}
 use Rattle.fade.specs.Fade.{nearest}
-use Rattle.fade.proofs.Table.{both, both_left, both_right}
 
 -- ---- the sums after m terms more, term by term: s is the sum so far, t the last power of p and b the bottom. (`top` as it stands would raise p to each power anew.)
 unfoldable pub run : ℕ → ℕ → ℕ → ℕ → ℕ → ℕ → ℕ → (ℕ → ℕ → ℕ → Bool) → Bool
@@ -43,15 +42,15 @@ run_is p q n f h =
 
 -- ---- the test of the pattern w: it stands for a double above 0, at most 1 and at least 2 ^ -k, and both ends of the enclosure round to it
 unfoldable pub sized : ℕ → Float → Bool
-sized k x = both (positive x) (both (leb (num x) (den x)) (leb (den x) (num x * 2 ^ k)))
+sized k x = positive x && (leb (num x) (den x) && leb (den x) (num x * 2 ^ k))
 
 unfoldable pub ends : ℕ → ℕ → ℕ → ℕ → Bool
 unfolding round to_bits
-ends w s t b = both (eqb (to_bits binary64 (round binary64 false b (s + t))) w) (eqb (to_bits binary64 (round binary64 false b s)) w)
+ends w s t b = eqb (to_bits binary64 (round binary64 false b (s + t))) w && eqb (to_bits binary64 (round binary64 false b s)) w
 
 unfoldable pub good : ℕ → ℕ → ℕ → ℕ → Bool
 unfolding run sized ends of_bits
-good k q p w = both (sized k (of_bits binary64 w)) (both (leb (p * 2) (q * suc (terms p q))) (run p q (terms p q) 0 1 1 1 (ends w)))
+good k q p w = sized k (of_bits binary64 w) && (leb (p * 2) (q * suc (terms p q)) && run p q (terms p q) 0 1 1 1 (ends w))
 
 -- an enclosure bot / cap ≤ exp(-p / q) ≤ bot / top is so narrow that both of its ends round to x
 pub record Rounded (p q : ℕ) (x : Float) : Type 0 where
@@ -74,17 +73,17 @@ split_ends : (w s t b : ℕ) → T (ends w s t b) → (round binary64 false b (s
 split_ends w s t b h =
     let l : Bool = eqb (to_bits binary64 (round binary64 false b (s + t))) w in
     let r : Bool = eqb (to_bits binary64 (round binary64 false b s)) w in
-    (back b (s + t) w (both_left l r (unfold ends in h)), back b s w (both_right l r (unfold ends in h)))
+    (back b (s + t) w (and_l l r (unfold ends in h)), back b s w (and_r l r (unfold ends in h)))
 
 pub entry : (k q p w : ℕ) → T (good k q p w) → Entry k q p (of_bits binary64 w)
 entry k q p w h =
     record {
-      most = leb→le (num x) (den x) (both_left (leb (num x) (den x)) (leb (den x) (num x * 2 ^ k)) rest);
-      least = leb→le (den x) (num x * 2 ^ k) (both_right (leb (num x) (den x)) (leb (den x) (num x * 2 ^ k)) rest);
+      most = leb→le (num x) (den x) (and_l (leb (num x) (den x)) (leb (den x) (num x * 2 ^ k)) rest);
+      least = leb→le (den x) (num x * 2 ^ k) (and_r (leb (num x) (den x)) (leb (den x) (num x * 2 ^ k)) rest);
       rounded = record {
-        above = both_left (positive x) (both (leb (num x) (den x)) (leb (den x) (num x * 2 ^ k))) size;
+        above = and_l (positive x) (leb (num x) (den x) && leb (den x) (num x * 2 ^ k)) size;
         n = n;
-        late = leb→le (p * 2) (q * suc n) (both_left (leb (p * 2) (q * suc n)) (run p q n 0 1 1 1 (ends w)) sums);
+        late = leb→le (p * 2) (q * suc n) (and_l (leb (p * 2) (q * suc n)) (run p q n 0 1 1 1 (ends w)) sums);
         low = unfold cap in pair.0;
         high = pair.1;
       };
@@ -96,20 +95,20 @@ entry k q p w h =
     n : ℕ
     n = terms p q
 
-    whole : T (both (sized k x) (both (leb (p * 2) (q * suc n)) (run p q n 0 1 1 1 (ends w))))
+    whole : T (sized k x && (leb (p * 2) (q * suc n) && run p q n 0 1 1 1 (ends w)))
     whole = unfold good in h
 
-    size : T (both (positive x) (both (leb (num x) (den x)) (leb (den x) (num x * 2 ^ k))))
-    size = unfold sized in both_left (sized k x) (both (leb (p * 2) (q * suc n)) (run p q n 0 1 1 1 (ends w))) whole
+    size : T (positive x && (leb (num x) (den x) && leb (den x) (num x * 2 ^ k)))
+    size = unfold sized in and_l (sized k x) (leb (p * 2) (q * suc n) && run p q n 0 1 1 1 (ends w)) whole
 
-    rest : T (both (leb (num x) (den x)) (leb (den x) (num x * 2 ^ k)))
-    rest = both_right (positive x) (both (leb (num x) (den x)) (leb (den x) (num x * 2 ^ k))) size
+    rest : T (leb (num x) (den x) && leb (den x) (num x * 2 ^ k))
+    rest = and_r (positive x) (leb (num x) (den x) && leb (den x) (num x * 2 ^ k)) size
 
-    sums : T (both (leb (p * 2) (q * suc n)) (run p q n 0 1 1 1 (ends w)))
-    sums = both_right (sized k x) (both (leb (p * 2) (q * suc n)) (run p q n 0 1 1 1 (ends w))) whole
+    sums : T (leb (p * 2) (q * suc n) && run p q n 0 1 1 1 (ends w))
+    sums = and_r (sized k x) (leb (p * 2) (q * suc n) && run p q n 0 1 1 1 (ends w)) whole
 
     pair : (round binary64 false (bot q n) (top p q n + p ^ n) ≡ x) × (round binary64 false (bot q n) (top p q n) ≡ x)
-    pair = split_ends w (top p q n) (p ^ n) (bot q n) (run_is p q n (ends w) (both_right (leb (p * 2) (q * suc n)) (run p q n 0 1 1 1 (ends w)) sums))
+    pair = split_ends w (top p q n) (p ^ n) (bot q n) (run_is p q n (ends w) (and_r (leb (p * 2) (q * suc n)) (run p q n 0 1 1 1 (ends w)) sums))
 
 -- ---- it is the pattern of `nearest`
 pub reads : (k q p w : ℕ) → T (good k q p w) → of_bits binary64 w ≡ nearest p q

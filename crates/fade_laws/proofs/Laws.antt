@@ -15,25 +15,24 @@ use Rattle.fade_laws.proofs.Series.{capped, narrows}
 use Rattle.fade.proofs.Sides.{during, after}
 use Rattle.fade.proofs.Entries.{Entry, entry_at, positive_number}
 use Rattle.fade_laws.proofs.Faded.{Faded, entry_nearest, faded, during_falls, above_zero}
-use Rattle.fade.proofs.TableA as A
-use Rattle.fade.proofs.TableB as B
+use Rattle.fade.proofs.Tested.{least_a, least_b, passes_a, passes_b}
 
 pub series : Series
 series = record { encloses = λ p q n m Q l. omega (arith, capped p q n m Q l); narrows = narrows }
 
 -- ---- the entries
-short : (r : ℕ) → r < 2000 → Entry A.least 2000 r (nearest r 2000)
-short r h = entry_at A.least 2000 r (A.entry r) (A.passes r h)
+short : (r : ℕ) → r < 2000 → Entry least_a 2000 r (nearest r 2000)
+short r h = entry_at least_a 2000 r _ (passes_a r h)
 
-far : (q : ℕ) → q < long → Entry B.least 1 q (nearest q 1)
-far q h = entry_at B.least 1 q (B.entry q) (B.passes q h)
+far : (q : ℕ) → q < long → Entry least_b 1 q (nearest q 1)
+far q h = entry_at least_b 1 q _ (passes_b q h)
 
 row : (d : ℕ) → d < end → d / 2000 < long
 row d h = omega arith
 
 -- ---- the fade
 product : (d : ℕ) → d < end → Faded d (fade d)
-product d h = rw (during d h) (faded A.least B.least d (nearest (d % 2000) 2000) (nearest (d / 2000) 1) (lit≤ tt) (short (d % 2000) (mod-lt d (lit< tt))) (far (d / 2000) (row d h)))
+product d h = rw (during d h) (faded least_a least_b d (nearest (d % 2000) 2000) (nearest (d / 2000) 1) (lit≤ tt) (short (d % 2000) (mod-lt d (lit< tt))) (far (d / 2000) (row d h)))
 
 falls : (d e : ℕ) → d < e → e ≤ end → T (lt (fade e) (fade d))
 falls d e h k = elim (dec_le end e) [ yes l ↦ last l | no l ↦ before (omega arith) ]
@@ -52,8 +51,8 @@ number d = elim (dec_le end d) [ yes l ↦ rw (after d l) (unfold is_nan in tt) 
 
 pub fading : Fading
 fading = record {
-  short = λ r h. entry_nearest A.least 2000 r (nearest r 2000) (lit< tt) (lit< tt) (short r h);
-  far = λ q h. entry_nearest B.least 1 q (nearest q 1) (lit< tt) (lit< tt) (far q h);
+  short = λ r h. entry_nearest least_a 2000 r (nearest r 2000) (lit< tt) (lit< tt) (short r h);
+  far = λ q h. entry_nearest least_b 1 q (nearest q 1) (lit< tt) (lit< tt) (far q h);
   close = λ d h. (product d h).close;
   above = λ d h. (product d (omega arith)).above;
   falls = falls;
