@@ -1,23 +1,27 @@
 -- `round` in the normal range gives a nearest double: no other double lies nearer to the fraction. So a `Rounded` double is a `Nearest` one. Assumes nothing.
 use mathlib.Core.Path.{◌≡◌, sym, ap, ap₂, ◌∙◌, subst}
-use mathlib.Core.Bool.{Bool, true, false, not, ◌&&◌}
+use mathlib.Core.Bool.{Bool, true, false, not}
 use Prim.Native.Nat.{ℕ, zero, suc, ◌+◌, ◌-◌, ◌*◌, ◌/◌, ◌%◌, ◌^◌, ◌≤◌, ◌<◌, compare, zero-le}
 use native.Mathlib.Nat.{le_trans, le_of_eq, le_of_lt, lt_of_lt_of_le, lt_of_le_of_lt, not-le_of_lt, mul-le-mul_left, mul-le-mul_right, mul-lt-mul_of_pos_right, le_of_mul-le-mul_right, lt_of_mul-lt-mul_right, le-div_iff_mul-le, le-add_right, zero-lt-suc}
 use native.Mathlib.Nat.{add-mul, mul_comm, mul_assoc, mul_left_comm, mul_right_comm, mul-one, suc-mul, mul-pos, sub-add_cancel, one-mul}
 use native.Mathlib.Omega.{arith}
 use lib.IntN.{pos, negsuc}
-use lib.Dec.{T, leb, ltb, eqb, leb→le, nleb→lt, ltb→lt, lit<, lit≤}
-use lib.Pow.{pow-add, pow_pos, pow_mono, pow-lt}
-use lib.Ieee.{Float, nan, inf, fin, Format, binary64, prec, emax, low, size, round, fits}
-use lib.Ieee.Fits.{two, two-le_pos, and_l, and_r}
+use lib.Dec.{T, leb, leb→le, nleb→lt, lit<, lit≤}
+use lib.Pow.{pow-add, pow_pos, pow_mono}
+use lib.Ieee.{Float, nan, inf, fin, Format, binary64, prec, low, size, round, fits}
+use lib.Ieee.Fits.{two, two-le_pos}
 use lib.Ieee.Nearest.{nearest-ge}
 use lib.Ieee.Order.{drop, kept}
 use lib.Ieee.Scale.{grid, round_val, finite, round_under, normal_of_rounded, round_same}
 use lib.Ieee.Positive.{num, den, den_pos, positive, positive-finite, value→cross}
+use Rattle.ieee.specs.Units.{power}
+use Rattle.ieee.proofs.Power.{power_le_back}
+use Rattle.ieee.proofs.Rounding.{closest_error}
+use Rattle.ieee.proofs.Value.{fits_says}
 use Rattle.fade.specs.Exp.{top, bot, cap}
 use Rattle.fade_laws.specs.Laws.{Nearest}
 use Rattle.fade_laws.proofs.Series.{bot_pos, top_pos, top_zero, cap_zero, later, under_strict, over_strict}
-use Rattle.fade_laws.proofs.Rounding.{closest_half, unit_small}
+use Rattle.fade_laws.proofs.Rounding.{unit_small}
 use Rattle.fade.proofs.Entries.{Rounded}
 use Rattle.fade_laws.proofs.Rounded.{Normal, cap_pos}
 
@@ -29,41 +33,29 @@ record Units (f : Format) (y : Float) : Type 0 where
   is : num y * 2 ^ low f ≡ m * 2 ^ t * den y
 
 exponent : (j l : ℕ) → 2 ^ j ≤ 2 ^ l → j ≤ l
-exponent j l h = go (leb j l) (leb→le j l) (nleb→lt j l)
-  where
-    go : (b : Bool) → (T b → j ≤ l) → (T (not b) → l < j) → j ≤ l
-    go true u v = u tt
-    go false u v = absurd (not-le_of_lt (pow-lt (v tt)) h)
+unfolding power
+exponent j l h = power_le_back h
 
 units : (f : Format) (y : Float) → T (fits f y) → T (positive y) → Units f y
-unfolding fits
 units f nan h p = absurd p
 units f (inf s) h p = absurd p
 units f (fin true m e) h p = absurd p
 units f (fin false zero e) h p = absurd p
 units f (fin false (suc m) (pos j)) h p =
-    let a : Bool = eqb (suc m % 2) 1 in
-    let b : Bool = ltb (suc m) (2 ^ prec f) in
-    let c : Bool = leb 1 (2 ^ low f) in
-    let d : Bool = ltb (suc m * 2 ^ j) (2 ^ suc (emax f) * 1) in
     record {
       m = suc m;
       t = j + low f;
-      short = ltb→lt (suc m) (2 ^ prec f) (and_r a b (and_l (a && b) c (and_l (a && b && c) d h)));
+      short = (fits_says f false m (pos j) h).0;
       is = mul_assoc (suc m) (2 ^ j) (2 ^ low f) ∙ ap (λ (z : ℕ). suc m * z) (sym (pow-add 2 j (low f))) ∙ sym (mul-one (suc m * 2 ^ (j + low f)));
     }
 units f (fin false (suc m) (negsuc j)) h p =
-    let a : Bool = eqb (suc m % 2) 1 in
-    let b : Bool = ltb (suc m) (2 ^ prec f) in
-    let c : Bool = leb (2 ^ suc j) (2 ^ low f) in
-    let d : Bool = ltb (suc m * 1) (2 ^ suc (emax f) * 2 ^ suc j) in
-    let l : suc j ≤ low f = exponent (suc j) (low f) (leb→le (2 ^ suc j) (2 ^ low f) (and_r (a && b) c (and_l (a && b && c) d h))) in
+    let says = fits_says f false m (negsuc j) h in
     record {
       m = suc m;
       t = low f - suc j;
-      short = ltb→lt (suc m) (2 ^ prec f) (and_r a b (and_l (a && b) c (and_l (a && b && c) d h)));
+      short = says.0;
       is = ap (λ (z : ℕ). z * 2 ^ low f) (mul-one (suc m))
-          ∙ ap (λ (z : ℕ). suc m * 2 ^ z) (sym (sub-add_cancel l))
+          ∙ ap (λ (z : ℕ). suc m * 2 ^ z) (sym (sub-add_cancel (exponent (suc j) (low f) says.1)))
           ∙ ap (λ (z : ℕ). suc m * z) (pow-add 2 (low f - suc j) (suc j))
           ∙ sym (mul_assoc (suc m) (2 ^ (low f - suc j)) (2 ^ suc j));
     }
@@ -155,7 +147,7 @@ module _ (f : Format) (x y : Float) (a c : ℕ) (C : 0 < c) (X : T (positive x))
   half =
       let n = a * 2 ^ low f in
       let u = 2 ^ drop (prec f) n c in
-      let h = closest_half n (c * u) (mul-pos C (pow_pos (drop (prec f) n c))) in
+      let h = closest_error n (c * u) (mul-pos C (pow_pos (drop (prec f) n c))) in
       let k : kept (prec f) n c * (c * u) ≡ kept (prec f) n c * u * c = ap (λ (z : ℕ). kept (prec f) n c * z) (mul_comm c u) ∙ sym (mul_assoc (kept (prec f) n c) u c) in
       let m = mul_comm c u in (
         subst (λ (z : ℕ). z * 2 ≤ n * 2 + u * c) k (le_trans h.0 (le_of_eq (ap (λ (z : ℕ). n * 2 + z) m))),

@@ -3,9 +3,10 @@
 use mathlib.Core.Path.{◌≡◌, refl, sym, ap, ap₂, ◌∙◌, subst}
 use Prim.Native.Nat.{ℕ, zero, suc, ◌+◌, ◌*◌, ◌^◌, ◌≤◌, ◌<◌}
 use native.Mathlib.Nat.{le_trans, le_of_eq, le-add_right, zero-lt-suc, mul-le-mul_left, mul-le-mul_right, le-suc, lt_of_le_of_lt, lt_of_lt_of_le, mul-lt-mul_of_pos_right, mul-lt-mul_of_pos_left, lt_of_mul-lt-mul_right, one-le-pow, lt-suc_self}
-use native.Mathlib.Nat.{add-zero, add_comm, add-suc, add_assoc, mul-add, add-mul, mul_comm, mul_assoc, mul_left_comm, mul_right_comm, mul-mul-mul_comm, mul-one, pow-zero, pow-suc, mul-pos, mul-zero}
+use native.Mathlib.Nat.{add-zero, add_comm, add-suc, add_assoc, mul-add, add-mul, mul_comm, mul_assoc, mul_left_comm, mul_right_comm, mul-one, pow-zero, pow-suc, mul-pos, mul-zero}
 use native.Mathlib.Omega.{arith}
 use lib.Ieee.Positive.{through}
+use Rattle.std.proofs.lemmas.Nat.{mul-pow}
 use Rattle.fade.specs.Exp.{top, bot, cap, Late}
 use Rattle.fade_laws.specs.Laws.{narrowing}
 
@@ -79,18 +80,13 @@ unfolding bot
 bot_factor k q zero = sym (mul-one (k ^ 0) ∙ pow-zero k)
 bot_factor k q (suc n) = ap (λ (z : ℕ). z * (k * q * suc n)) (bot_factor k q n) ∙ move (k ^ n) (bot q n) k q (suc n) ∙ ap (λ (z : ℕ). z * (bot q n * (q * suc n))) (sym (pow-suc k n))
 
-power_factor : (k p n : ℕ) → (k * p) ^ n ≡ k ^ n * p ^ n
-power_factor k p zero = pow-zero (k * p) ∙ sym (ap₂ (λ (y z : ℕ). y * z) (pow-zero k) (pow-zero p))
-power_factor k p (suc n) =
-    pow-suc (k * p) n ∙ ap (λ (z : ℕ). z * (k * p)) (power_factor k p n) ∙ mul-mul-mul_comm (k ^ n) (p ^ n) k p ∙ ap₂ (λ (y z : ℕ). y * z) (sym (pow-suc k n)) (sym (pow-suc p n))
-
 pub top_factor : (k p q n : ℕ) → top (k * p) (k * q) n ≡ k ^ n * top p q n
 unfolding top
 top_factor k p q zero = sym (mul-one (k ^ 0) ∙ pow-zero k)
 top_factor k p q (suc n) =
     ap₂ (λ (y z : ℕ). y + z)
     (ap (λ (z : ℕ). z * (k * q * suc n)) (top_factor k p q n) ∙ move (k ^ n) (top p q n) k q (suc n) ∙ ap (λ (z : ℕ). z * (top p q n * (q * suc n))) (sym (pow-suc k n)))
-    (power_factor k p (suc n))
+    (mul-pow k p (suc n))
     ∙ sym (mul-add (k ^ suc n) (top p q n * (q * suc n)) (p ^ suc n))
 
 -- ---- the enclosures narrow to one number: their width, the last term, at least halves with each term more

@@ -8,7 +8,7 @@ use lib.Ieee.{Float, nan, inf, fin, up, down, below, level, eq, ne, lt, is_nan}
 use borrow.Author.Tests.{eqb-true, eq-eqb, le-ltb}
 use Rattle.ieee.specs.Units.{Amount, Is}
 use Rattle.ieee.specs.Extremes.{least, most, clamped}
-use Rattle.ieee.proofs.Tests.{both_yes}
+use Rattle.std.proofs.lemmas.Bool.{and_parts}
 use Rattle.ieee.proofs.Order.{recount, lt_test, min_is, max_is}
 
 -- ---- a not-a-number: it alone is unequal to itself, and it is neither below nor above any value
@@ -90,15 +90,15 @@ most_nan x y h =
 
 -- ---- of two equal values the first: of -0 and +0 the one that stands first
 level_below : (s t : Bool) (a b : ℕ) → level s a t b ≡ true → (below s a t b ≡ false) × (below t b s a ≡ false)
-level_below false false a b e = let h = eqb-true a b (both_yes (eqb a b) true e).0 in (le-ltb a b (omega arith), le-ltb b a (omega arith))
-level_below true true a b e = let h = eqb-true a b (both_yes (eqb a b) true e).0 in (le-ltb b a (omega arith), le-ltb a b (omega arith))
+level_below false false a b e = let h = eqb-true a b (and_parts (eqb a b) true e).0 in (le-ltb a b (omega arith), le-ltb b a (omega arith))
+level_below true true a b e = let h = eqb-true a b (and_parts (eqb a b) true e).0 in (le-ltb b a (omega arith), le-ltb a b (omega arith))
 level_below true false a b e =
-    let h = eqb-true a b (both_yes (eqb a b) (eqb a 0) e).0 in
-    let z = eqb-true a 0 (both_yes (eqb a b) (eqb a 0) e).1 in
+    let h = eqb-true a b (and_parts (eqb a b) (eqb a 0) e).0 in
+    let z = eqb-true a 0 (and_parts (eqb a b) (eqb a 0) e).1 in
     (le-ltb 0 (a + b) (omega arith), refl)
 level_below false true a b e =
-    let h = eqb-true a b (both_yes (eqb a b) (eqb a 0) e).0 in
-    let z = eqb-true a 0 (both_yes (eqb a b) (eqb a 0) e).1 in
+    let h = eqb-true a b (and_parts (eqb a b) (eqb a 0) e).0 in
+    let z = eqb-true a 0 (and_parts (eqb a b) (eqb a 0) e).1 in
     (refl, le-ltb 0 (b + a) (omega arith))
 
 equal_below : (x y : Float) → eq x y ≡ true → (is_nan x ≡ false) × ((lt x y ≡ false) × (lt y x ≡ false))

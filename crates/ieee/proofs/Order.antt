@@ -4,10 +4,11 @@ use mathlib.Core.Logic.{inl, inr}
 use Prim.Native.Nat.{ℕ, ◌*◌, ◌≤◌, ◌<◌, min, max}
 use native.Mathlib.Nat.{le_of_lt, le_of_eq, mul-lt-mul_of_pos_right, lt_of_mul-lt-mul_right, mul-pos, eq_of_mul-eq-mul_right, eq-or-lt_of_le}
 use native.Mathlib.Omega.{arith}
-use mathlib.Core.Bool.{Bool, true, false, not, ◌&&◌, ◌||◌, cond}
+use mathlib.Core.Bool.{Bool, true, false, not, ◌||◌, cond}
 use lib.Dec.{T, leb, ltb, eqb, leb→le, le→leb, ltb→lt, lt→ltb, eqb→eq, nltb→le, nleb→lt}
 use lib.Ieee.{Float, nan, inf, fin, up, down, lt, le, eq}
 use lib.Ieee.Fits.{eq→eqb, down_pos}
+use Rattle.std.proofs.Math.Bool.{and-true}
 use Rattle.ieee.specs.Units.{power, units, Amount, Is}
 use Rattle.ieee.proofs.Power.{power_pos}
 use Rattle.ieee.proofs.Value.{amount_value}
@@ -60,10 +61,6 @@ lt_is (fin false m e) (fin false n d) a b =
     same_lt (m * up e * down d) (n * up d * down e) (power 1074) u v (down e * down d) (power_pos 1074) (mul-pos (down_pos e) (down_pos d))
     (common (m * up e) (down e) (down d) u (power 1074) (amount_value (fin false m e) a).1)
     (common' (n * up d) (down e) (down d) v (power 1074) (amount_value (fin false n d) b).1)
-
-and-true : (b : Bool) → b && true ≡ b
-and-true true = refl
-and-true false = refl
 
 pub eq_is : (x y : Float) → Amount x → Amount y → eq x y ≡ eqb (units x) (units y)
 unfolding eq

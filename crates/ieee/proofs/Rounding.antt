@@ -29,7 +29,7 @@ step w r u Ordering.eq l a b e = tie (w % 2) (below_two w) (e tt)
     tie t k h = let p : t * u ≤ 1 * u = mul-le-mul_right u (omega arith) in omega arith
 step w r u Ordering.gt l a b e = let h = b tt in omega arith
 
-closest_error : (n u : ℕ) → 0 < u → (closest n u * u * 2 ≤ n * 2 + u) × (n * 2 ≤ closest n u * u * 2 + u)
+pub closest_error : (n u : ℕ) → 0 < u → (closest n u * u * 2 ≤ n * 2 + u) × (n * 2 ≤ closest n u * u * 2 + u)
 closest_error n u U =
     subst (λ (m : ℕ). (closest n u * u * 2 ≤ m * 2 + u) × (m * 2 ≤ closest n u * u * 2 + u)) (div-add-mod' n u)
     (step (n / u) (n % u) u (compare (n % u * 2) u) (mod-lt n U) (leb→le (n % u * 2) u) (nleb→lt (n % u * 2) u) (eqb→eq (n % u * 2) u))

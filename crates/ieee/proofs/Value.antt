@@ -14,7 +14,7 @@ use Rattle.ieee.specs.Units.{power, units, Amount, Is, Digits, OnGrid}
 use Rattle.ieee.proofs.Power.{power-is, power_pos, power_add, power_split, power_le_back, power_lt_back, grid_finer}
 
 -- ---- what `fits` says
-fits_says : (f : Format) (s : Bool) (m : ℕ) (e : ℤ) → T (fits f (fin s (suc m) e)) → (suc m < 2 ^ prec f) × (down e ≤ 2 ^ low f)
+pub fits_says : (f : Format) (s : Bool) (m : ℕ) (e : ℤ) → T (fits f (fin s (suc m) e)) → (suc m < 2 ^ prec f) × (down e ≤ 2 ^ low f)
 unfolding fits
 fits_says f s m e t =
     let a : Bool = eqb (suc m % 2) 1 in
