@@ -1,4 +1,3 @@
 pub mod Entries
 pub mod Sides
-pub mod Table
 pub mod Tested

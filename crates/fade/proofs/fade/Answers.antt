@@ -4,19 +4,18 @@ use Prim.Native.Nat.{ℕ, ◌/◌, ◌%◌, ◌<◌}
 use native.Mathlib.Nat.{mod-lt}
 use native.Mathlib.Omega.{arith}
 use lib.Dec.{T, lit<}
-use lib.ListN.{get_or}
 use lib.Ieee.{binary64, of_bits, mul}
 use Rattle.fade.specs.declared.tables.TheConstants.{A, B}
 use Rattle.fade.specs.Fade.{WINDOW_MS, end}
 use Rattle.fade.proofs.Sides.{during, after}
-use Rattle.fade.proofs.Entries.{good, reads, no_nan}
-use Rattle.fade.proofs.Tested.{least_a, least_b, passes_a, passes_b}
+use Rattle.fade.proofs.Entries.{reads, no_nan}
+use Rattle.fade.proofs.Tested.{least_a, least_b, passing, passes_a, passes_b}
 use Rattle.fade.proofs.fade.Goals as goal
 
-short : (d : ℕ) → T (good least_a WINDOW_MS (d % WINDOW_MS) (get_or A (d % WINDOW_MS) 0))
+short : (d : ℕ) → T (passing least_a WINDOW_MS A (d % WINDOW_MS))
 short d = passes_a (d % WINDOW_MS) (mod-lt d (lit< tt))
 
-far : (d : ℕ) → d < end → T (good least_b 1 (d / WINDOW_MS) (get_or B (d / WINDOW_MS) 0))
+far : (d : ℕ) → d < end → T (passing least_b 1 B (d / WINDOW_MS))
 far d h = passes_b (d / WINDOW_MS) (omega arith)
 
 pub entry-short-requires-clause-number : goal.entry-short-requires-clause-number
