@@ -1,7 +1,8 @@
 // The float core of a judgement, by value: the token bucket and a unit's use. The want and the decision are in `verdict`. No store is known here.
 #![tactic(auto)]
 
-ghost use Rattle.std.specs.Prelude.{◌≡◌, ◌-◌, min, max};
+ghost use Rattle.std.specs.Prelude.{◌≡◌, ℕ, ◌-◌, ◌*◌, ◌^◌, ◌<◌, Bool, List, length, min, max};
+ghost use Rattle.std.specs.Mem.{type_size};
 ghost use Rattle.ieee.specs.Doubles.{whole};
 ghost use Rattle.flow.specs.Flow as flow;
 
@@ -24,7 +25,7 @@ pub const WINDOW_SECS: f64 = 2.0;
 pub const CREDIT_SECS: f64 = 4.0;
 
 // A rate that bounds nothing, u64::MAX, and the double nearest to it, 2^64.
-pub const UNBOUNDED: u64 = 18446744073709551615;
+pub const UNBOUNDED: u64 = u64::MAX;
 
 const UNBOUNDED_RATE: f64 = 18446744073709551616.0;
 
@@ -51,10 +52,28 @@ pub struct Use {
 }
 
 // The dimension at a place.
+#[tactic(auto, unfolding(crate::specs::Flow::dim_at))]
 pub fn dim_at(d: usize) -> Dim
     ensures { result ≡ flow.dim_at d }
 {
     if d == 0 { Dim::Receptions } else { Dim::Bytes }
+}
+
+// A value with a part for each dimension: what f gives of each.
+pub fn per_dim<T, F: Fn(usize) -> T>(f: F) -> [T; DIMS]
+    requires fits { flow.dims * type_size T.row < 2 ^ 63 }
+    requires callable { (d : ℕ) → d < flow.dims → F.pre f d }
+    ensures value { (g : ℕ → T) (xs : List T) → ((d : ℕ) (x : T) → d < flow.dims → F.post f d x → x ≡ g d) → length xs ≡ flow.dims → result ≡ flow.upto g flow.dims xs }
+{
+    std::array::from_fn(f)
+}
+
+// Whether f passes each dimension.
+pub fn each_passes<F: Fn(usize) -> bool>(f: F) -> bool
+    requires callable { (d : ℕ) → d < flow.dims → F.pre f d }
+    ensures value { (p : ℕ → Bool) → ((d : ℕ) (x : Bool) → d < flow.dims → F.post f d x → x ≡ p d) → result ≡ flow.all p flow.dims }
+{
+    (0..DIMS).all(f)
 }
 
 // ---- numbers
@@ -78,43 +97,33 @@ pub fn per_second(rate: u64) -> f64
 }
 
 // Rates or costs as doubles.
+#[tactic(auto, unfolding(crate::specs::Flow::numbers))]
 pub fn numbers(xs: [u64; DIMS]) -> [f64; DIMS]
     ensures { result ≡ flow.numbers xs }
 {
-    let mut out = [0.0; DIMS];
-    let mut d = 0;
-    while d < DIMS {
-        out[d] = per_second(xs[d]);
-        d += 1;
-    }
-    out
+    per_dim(|d| per_second(xs[d]))
 }
 
 // The rate at which credit fills: the level, or the relay's rate where that is less.
+#[tactic(auto, unfolding(crate::specs::Flow::fills))]
 pub fn fills(level: [f64; DIMS], rate: [f64; DIMS]) -> [f64; DIMS]
     ensures { result ≡ flow.fills level rate }
 {
-    let mut out = [0.0; DIMS];
-    let mut d = 0;
-    while d < DIMS {
-        out[d] = ieee::min(level[d], rate[d]);
-        d += 1;
-    }
-    out
+    per_dim(|d| ieee::min(level[d], rate[d]))
 }
 
 // The time since `at`, none if that is not past.
 pub fn since(clock: u64, at_ms: u64) -> u64
     ensures { result ≡ clock - at_ms }
 {
-    if at_ms < clock { clock - at_ms } else { 0 }
+    clock.saturating_sub(at_ms)
 }
 
 // The later of two stamps.
 pub fn later(a: u64, b: u64) -> u64
     ensures { result ≡ max a b }
 {
-    if a < b { b } else { a }
+    a.max(b)
 }
 
 // ---- the bucket
@@ -123,11 +132,7 @@ pub fn later(a: u64, b: u64) -> u64
 fn held(ceiling: u64) -> u64
     ensures { result ≡ min ceiling flow.RATE_MOST }
 {
-    if ceiling < RATE_MOST {
-        ceiling
-    } else {
-        RATE_MOST
-    }
+    ceiling.min(RATE_MOST)
 }
 
 impl Bucket {
@@ -156,7 +161,7 @@ impl Bucket {
     pub fn spent(mut self, cost: f64) -> Bucket
         ensures { result ≡ flow.spent self cost }
     {
-        self.tokens = self.tokens - cost;
+        self.tokens -= cost;
         self
     }
 
@@ -225,12 +230,7 @@ impl Use {
     {
         let idle = since(clock, self.at_ms);
         let fresh = is_fresh(self.fresh);
-        let held = self.credit;
-        let mut d = 0;
-        while d < DIMS {
-            self.credit[d] = credit_of(fresh, held[d], fill[d], idle);
-            d += 1;
-        }
+        self.credit = per_dim(|d| credit_of(fresh, self.credit[d], fill[d], idle));
         self
     }
 
@@ -239,12 +239,7 @@ impl Use {
         ensures { result ≡ flow.fade_to self clock }
     {
         let faded = fade::fade(since(clock, self.at_ms));
-        let sums = self.attempted;
-        let mut d = 0;
-        while d < DIMS {
-            self.attempted[d] = sums[d] * faded;
-            d += 1;
-        }
+        self.attempted = per_dim(|d| self.attempted[d] * faded);
         self.at_ms = later(self.at_ms, clock);
         self
     }
@@ -253,41 +248,25 @@ impl Use {
     pub fn tried(mut self, cost: [f64; DIMS]) -> Use
         ensures { result ≡ flow.tried self cost }
     {
-        let sums = self.attempted;
-        let mut d = 0;
-        while d < DIMS {
-            self.attempted[d] = sums[d] + cost[d];
-            d += 1;
-        }
+        self.attempted = per_dim(|d| self.attempted[d] + cost[d]);
         self.fresh = 0;
         self
     }
 
     // What the unit attempts a second, faded to the clock: its sums over the window.
+    #[tactic(auto, unfolding(crate::specs::Flow::rates))]
     pub fn rates(self, clock: u64) -> [f64; DIMS]
         ensures { result ≡ flow.rates self clock }
     {
         let faded = fade::fade(since(clock, self.at_ms));
-        let sums = self.attempted;
-        let mut out = [0.0; DIMS];
-        let mut d = 0;
-        while d < DIMS {
-            out[d] = sums[d] * faded / WINDOW_SECS;
-            d += 1;
-        }
-        out
+        per_dim(|d| self.attempted[d] * faded / WINDOW_SECS)
     }
 
     // An admitted batch is taken off the credit.
     pub fn charged(mut self, cost: [f64; DIMS]) -> Use
         ensures { result ≡ flow.charged self cost }
     {
-        let held = self.credit;
-        let mut d = 0;
-        while d < DIMS {
-            self.credit[d] = held[d] - cost[d];
-            d += 1;
-        }
+        self.credit = per_dim(|d| self.credit[d] - cost[d]);
         self
     }
 
@@ -295,55 +274,28 @@ impl Use {
     pub fn handed_back(mut self, cost: [f64; DIMS]) -> Use
         ensures { result ≡ flow.handed_back self cost }
     {
-        let sums = self.attempted;
-        let held = self.credit;
-        let mut d = 0;
-        while d < DIMS {
-            self.attempted[d] = ieee::max(sums[d] - cost[d], 0.0);
-            self.credit[d] = credit_back(held[d], cost[d]);
-            d += 1;
-        }
+        self.attempted = per_dim(|d| ieee::max(self.attempted[d] - cost[d], 0.0));
+        self.credit = per_dim(|d| credit_back(self.credit[d], cost[d]));
         self
     }
 }
 
 // ---- the buckets, over the dimensions
 
-pub fn refilled_all(mut buckets: [Bucket; DIMS], elapsed: u64) -> [Bucket; DIMS]
+pub fn refilled_all(buckets: [Bucket; DIMS], elapsed: u64) -> [Bucket; DIMS]
     ensures { result ≡ flow.refilled_all buckets elapsed }
 {
-    let was = buckets;
-    let mut d = 0;
-    while d < DIMS {
-        let b = was[d];
-        buckets[d] = b.refilled(elapsed);
-        d += 1;
-    }
-    buckets
+    per_dim(|d| buckets[d].refilled(elapsed))
 }
 
-pub fn spent_all(mut buckets: [Bucket; DIMS], cost: [f64; DIMS]) -> [Bucket; DIMS]
+pub fn spent_all(buckets: [Bucket; DIMS], cost: [f64; DIMS]) -> [Bucket; DIMS]
     ensures { result ≡ flow.spent_all buckets cost }
 {
-    let was = buckets;
-    let mut d = 0;
-    while d < DIMS {
-        let b = was[d];
-        buckets[d] = b.spent(cost[d]);
-        d += 1;
-    }
-    buckets
+    per_dim(|d| buckets[d].spent(cost[d]))
 }
 
-pub fn returned_all(mut buckets: [Bucket; DIMS], cost: [f64; DIMS]) -> [Bucket; DIMS]
+pub fn returned_all(buckets: [Bucket; DIMS], cost: [f64; DIMS]) -> [Bucket; DIMS]
     ensures { result ≡ flow.returned_all buckets cost }
 {
-    let was = buckets;
-    let mut d = 0;
-    while d < DIMS {
-        let b = was[d];
-        buckets[d] = b.returned(cost[d]);
-        d += 1;
-    }
-    buckets
+    per_dim(|d| buckets[d].returned(cost[d]))
 }

@@ -16,6 +16,16 @@ use borrow.Author.Tests.{lt-ltb, ltb-true, ltb-false, eq-eqb, ne_eqb}
 use Rattle.ieee.specs.Doubles.{nothing, half, one}
 use Rattle.ieee.specs.Extremes.{clamped, most}
 use Rattle.scan_trim.specs.Laws.{Trim}
+use Rattle.scan_trim.specs.Trimming.{is_finite}
+use Rattle.std.specs.Float.{float_is_finite}
+
+-- what std says is finite lies between the infinities
+pub finite_is : (x : Float) → float_is_finite x ≡ is_finite x
+unfolding float_is_finite is_finite lt Ieee.div of_bits Ieee.neg
+finite_is nan = refl
+finite_is (inf true) = refl
+finite_is (inf false) = refl
+finite_is (fin s m e) = refl
 
 -- x is a number, and no not-a-number
 pub data Number : Float → Type 0 where

@@ -1,5 +1,4 @@
 -- The laws of the trim and of the level stored (specs/Laws.antt). Assumes nothing.
-use Prim.Native.Nat.{ℕ}
 use Rattle.wants.specs.Wants.{Hist}
 use Rattle.head.specs.declared.Shedder.{Shedder}
 use Rattle.scan_trim.specs.Trimming.{trims_at, trimmed}

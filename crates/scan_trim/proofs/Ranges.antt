@@ -22,7 +22,6 @@ use Rattle.ieee.proofs.Order.{lt_units, passed}
 use Rattle.ieee.proofs.Operations.{div_rounds, int_rounds}
 use Rattle.ieee.proofs.Extremes.{clamped_nan}
 use Rattle.ieee.proofs.Laws.{rounds_is}
-use Rattle.flow.specs.Flow as flow
 use Rattle.flow.specs.Flow.{at, zeros, numbers, dims}
 use Rattle.flow.proofs.Parts.{upto_at}
 use Rattle.wants.specs.Wants.{Hist}

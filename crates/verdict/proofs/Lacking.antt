@@ -1,24 +1,24 @@
 -- The first dimension that lacks (specs/Rules), turn by turn; where none lacks, all hold. Assumes nothing.
-use mathlib.Core.Path.{◌≡◌, refl, sym, ap, ◌∙◌}
+use mathlib.Core.Path.{◌≡◌, refl, sym, ap, subst, ◌∙◌}
 use mathlib.Core.Bool.{Bool, true, false, cond, not, ◌&&◌}
-use Prim.Native.Nat.{ℕ, zero, suc, ◌+◌, ◌<◌, ◌≤◌}
-use native.Mathlib.Numerals.{add-one}
+use Prim.Native.Nat.{ℕ, zero, suc, ◌<◌, ◌≤◌}
 use native.Mathlib.Omega.{arith}
 use native.Mathlib.Decide.{ℕ_discrete}
 use lib.Dec.{ltb}
 use borrow.Author.Tests.{lt-ltb, le-ltb, ltb-true, ltb-false}
-use Rattle.flow.specs.Flow.{all}
-use Rattle.verdict.specs.Rules.{lacking}
+use Rattle.flow.specs.Flow.{dims, all}
+use Rattle.std.specs.Option.{MatchOption}
+use Rattle.std.specs.List.{AllWithin, HoldsAt, range_with_len}
+use Rattle.std.proofs.lemmas.List.FromFn.{length-range_with_len}
+use Rattle.flow.proofs.Parts.{place}
+use denote.Param.Members.{Shared}
+use lib.ListN.{length}
+use native.Mathlib.Nat.{lt_trans}
+use Rattle.std.specs.declared.option.Option.{Option}
+use Rattle.std.specs.declared.option.Option.TheVariants.{Some, None}
+use Rattle.verdict.specs.Rules.{lacking, first}
 
--- ---- a turn of the loop
-pub lacking_none : (p : ℕ → Bool) → lacking p 0 ≡ 0
-unfolding lacking
-lacking_none p = refl
-
-pub lacking_next : (p : ℕ → Bool) (i : ℕ) → lacking p i ≡ i → p i ≡ true → lacking p (i + 1) ≡ i + 1
-unfolding lacking
-lacking_next p i e f = simp (add-one, e, f, le-ltb i i (omega arith))
-
+-- ---- the one that is found
 here : (p : ℕ → Bool) (i : ℕ) → lacking p i ≡ i → p i ≡ false → lacking p (suc i) ≡ i
 unfolding lacking
 here p i e f = simp (e, f, le-ltb i i (omega arith))
@@ -43,6 +43,27 @@ pub lacking_all : (p : ℕ → Bool) (n : ℕ) → Before p n → lacking p n �
 unfolding lacking
 lacking_all p zero h = refl
 lacking_all p (suc n) h = simp (lacking_all p n (λ d l. h d (omega arith)), h n (omega arith), le-ltb n n (omega arith))
+
+-- a search for the first dimension that lacks
+turned : (b c : Bool) → c ≡ not b → b ≡ not c
+turned true c e = rw e
+turned false c e = rw e
+
+module _ {F : Type 0} (g : Shared F (ℕ × Unit {0}) Bool) where
+  pub position_first : (f : F) (p : ℕ → Bool) → ((d : ℕ) (x : Bool) → d < dims → g.post f (d, tt) x → x ≡ not (p d))
+      → (r : Option ℕ) → MatchOption r (AllWithin (λ d. g.post f (d, tt) false) (range_with_len 0 dims) 0 (length (range_with_len 0 dims))) (λ i. (i < length (range_with_len 0 dims)) × HoldsAt (λ d. g.post f (d, tt) true) (range_with_len 0 dims) i × AllWithin (λ d. g.post f (d, tt) false) (range_with_len 0 dims) 0 i)
+      → r ≡ first (lacking p dims)
+  unfolding first
+  position_first f p is None h =
+      simp (lacking_all p dims (λ d l. turned (p d) false (is d false l (subst (λ (k : ℕ). g.post f (k, tt) false) (place d l) (h d 0 (omega arith) (omega (arith, length-range_with_len 0 dims)))))))
+  position_first f p is (Some i) h =
+      let l : i < dims = omega (arith, h.0, length-range_with_len 0 dims) in
+      simp (
+        lacking_found p dims i l
+            (lacking_all p i (λ d k. turned (p d) false (is d false (lt_trans k l) (subst (λ (k : ℕ). g.post f (k, tt) false) (place d (lt_trans k l)) (h.2 d 0 (omega arith) k)))))
+            (turned (p i) true (is i true l (subst (λ (k : ℕ). g.post f (k, tt) true) (place i l) (h.1 0)))),
+        lt-ltb i dims l,
+      )
 
 -- ---- all hold exactly where none lacks; the one found lacks, and those before it hold
 pub record Found (p : ℕ → Bool) (n l : ℕ) (a : Bool) : Type 0 where

@@ -2,6 +2,8 @@
 -- dimension that lacks is named. The verdict that it gives, and the bound that failed. Each function of src/rules.rt has its definition here for its contract. Definitions only.
 use Rattle.std.specs.Prelude.{ℕ, zero, suc, ◌-◌, Bool, cond, List, ltb, Float}
 use Rattle.std.proofs.Math.Option.{Option, none, some}
+use Rattle.std.specs.declared.option.Option as std
+use Rattle.std.specs.declared.option.Option.TheVariants as found
 use Rattle.ieee.specs.Doubles.{◌⊴◌, one}
 use Rattle.flow.specs.declared.Bucket.{Bucket}
 use Rattle.flow.specs.declared.Use.{Use}
@@ -18,6 +20,10 @@ use Rattle.verdict.specs.Verdict.{credit_holds, tokens_hold, part_of, reserve_ho
 unfoldable pub lacking : (p : ℕ → Bool) (n : ℕ) → ℕ
 lacking p zero = zero
 lacking p (suc n) = cond (ltb (lacking p n) n) (lacking p n) (cond (p n) (suc n) n)
+
+-- a dimension that was found, none from dims on
+unfoldable pub first : (d : ℕ) → std.Option ℕ
+first d = cond (ltb d dims) (found.Some d) found.None
 
 unfoldable pub credit_lacks : (credit cost : List Float) → ℕ
 credit_lacks credit cost = lacking (λ (d : ℕ). credit_holds (at credit d) (at cost d)) dims

@@ -49,10 +49,7 @@ pub enum Rule {
 pub fn weight_of(fresh: bool, idle: u64) -> f64
     ensures { result ≡ verdicts.weight_of fresh idle }
 {
-    if fresh {
-        return 1.0;
-    }
-    if WINDOW_MS <= idle { 1.0 } else { 0.5 }
+    if fresh || WINDOW_MS <= idle { 1.0 } else { 0.5 }
 }
 
 // How many times the level the unit wants; this batch is in `attempted` already.
@@ -63,14 +60,13 @@ pub fn want_of(weight: f64, attempted: f64, cost: f64, level: f64) -> f64
 }
 
 // How many times the level a unit wants, in the dimension where that is most; 0 at least.
+#[tactic(auto, using(flow::proofs::Parts::largest_none, flow::proofs::Parts::largest_next))]
 pub fn want(weight: f64, attempted: [f64; DIMS], cost: [f64; DIMS], level: [f64; DIMS]) -> f64
     ensures { result ≡ verdicts.want weight attempted cost level }
 {
     let mut times = 0.0;
-    let mut d = 0;
-    while d < DIMS {
+    for d in 0..DIMS {
         times = ieee::max(times, want_of(weight, attempted[d], cost[d], level[d]));
-        d += 1;
     }
     times
 }
@@ -88,11 +84,7 @@ pub struct Outcome {
 pub fn is_admitted(verdict: Verdict) -> bool
     ensures { result ≡ verdicts.is_admitted verdict }
 {
-    match verdict {
-        Verdict::Admitted => true,
-        Verdict::OverShare => false,
-        Verdict::RelayRate => false,
-    }
+    matches!(verdict, Verdict::Admitted)
 }
 
 fn settled(verdict: Verdict, buckets: [Bucket; DIMS], used: Use, cost: [f64; DIMS]) -> Outcome
@@ -124,12 +116,12 @@ fn weighed(wants: f64, rank: f64, buckets: [Bucket; DIMS], used: Use, cost: [f64
     ensures outcome_value { result.outcome ≡ verdicts.weighed wants rank buckets used cost }
     ensures rule_value { result.rule ≡ rules.rule_of wants rank used.credit buckets cost }
 {
-    let credit = used.credit;
-    let rule = rule_of(wants, rank, credit, buckets, cost);
+    let rule = rule_of(wants, rank, used.credit, buckets, cost);
     let outcome = settled(verdict_of(rule), buckets, used, cost);
     Ruled { rule, outcome }
 }
 
+#[tactic(auto, unfolding(crate::specs::Rules::ruled))]
 pub fn judged(
     buckets: [Bucket; DIMS],
     used: Use,
@@ -146,7 +138,6 @@ pub fn judged(
     let full = refilled_all(buckets, elapsed);
     let weight = weight_of(is_fresh(used.fresh), since(clock, used.at_ms));
     let next = used.credited(clock, fill).fade_to(clock).tried(cost);
-    let attempted = next.attempted;
-    let wants = want(weight, attempted, cost, level);
+    let wants = want(weight, next.attempted, cost, level);
     weighed(wants, rank, full, next, cost)
 }

@@ -1,6 +1,7 @@
 // The rule that decides a batch: the first that lacks, and in which dimension. Within the level credit, then tokens; over it
 // credit, tokens, then the reserve; each is asked of receptions, then of bytes.
-ghost use Rattle.std.specs.Prelude.{◌≡◌};
+ghost use Rattle.std.specs.Prelude.{◌≡◌, ℕ, ◌<◌, Bool, not};
+ghost use Rattle.flow.specs.Flow.{dims};
 ghost use Rattle.verdict.specs.Verdict as verdicts;
 ghost use Rattle.verdict.specs.Rules as rules;
 
@@ -42,54 +43,40 @@ fn mark_of(wants: f64, rank: f64) -> f64
     RESERVE * (1.0 - 1.0 / (wants * (1.0 + rank * RANK_WEIGHT)))
 }
 
-// ---- the first dimension that lacks, DIMS where none does
+// ---- the first dimension that lacks
 
-fn credit_lacks(credit: [f64; DIMS], cost: [f64; DIMS]) -> usize
-    ensures { result ≡ rules.credit_lacks credit cost }
+// The first dimension that lacks, none where none does.
+fn first_lacking<F: Fn(usize) -> bool>(lacks: F) -> Option<usize>
+    requires callable { (d : ℕ) → d < dims → F.pre lacks d }
+    ensures value { (holds : ℕ → Bool) → ((d : ℕ) (x : Bool) → d < dims → F.post lacks d x → x ≡ not (holds d)) → result ≡ rules.first (rules.lacking holds dims) }
 {
-    let mut d = 0;
-    while d < DIMS {
-        if credit_holds(credit[d], cost[d]) {
-            d += 1;
-        } else {
-            return d;
-        }
-    }
-    d
+    (0..DIMS).position(lacks)
 }
 
-fn tokens_lack(buckets: [Bucket; DIMS], cost: [f64; DIMS]) -> usize
-    ensures { result ≡ rules.tokens_lack buckets cost }
+#[tactic(auto, unfolding(crate::specs::Rules::credit_lacks))]
+fn credit_lacks(credit: [f64; DIMS], cost: [f64; DIMS]) -> Option<usize>
+    ensures { result ≡ rules.first (rules.credit_lacks credit cost) }
 {
-    let mut d = 0;
-    while d < DIMS {
-        let b = buckets[d];
-        if tokens_hold(b, cost[d]) {
-            d += 1;
-        } else {
-            return d;
-        }
-    }
-    d
+    first_lacking(|d| !credit_holds(credit[d], cost[d]))
 }
 
-fn reserve_lacks(buckets: [Bucket; DIMS], cost: [f64; DIMS], mark: f64) -> usize
-    ensures { result ≡ rules.reserve_lacks buckets cost mark }
+#[tactic(auto, unfolding(crate::specs::Rules::tokens_lack))]
+fn tokens_lack(buckets: [Bucket; DIMS], cost: [f64; DIMS]) -> Option<usize>
+    ensures { result ≡ rules.first (rules.tokens_lack buckets cost) }
 {
-    let mut d = 0;
-    while d < DIMS {
-        let b = buckets[d];
-        if reserve_holds(b, cost[d], mark) {
-            d += 1;
-        } else {
-            return d;
-        }
-    }
-    d
+    first_lacking(|d| !tokens_hold(buckets[d], cost[d]))
+}
+
+#[tactic(auto, unfolding(crate::specs::Rules::reserve_lacks))]
+fn reserve_lacks(buckets: [Bucket; DIMS], cost: [f64; DIMS], mark: f64) -> Option<usize>
+    ensures { result ≡ rules.first (rules.reserve_lacks buckets cost mark) }
+{
+    first_lacking(|d| !reserve_holds(buckets[d], cost[d], mark))
 }
 
 // ---- the rule
 
+#[tactic(auto, unfolding(crate::specs::Rules::side_of))]
 fn side_of(wants: f64) -> Side
     ensures { result ≡ rules.side_of wants }
 {
@@ -101,6 +88,7 @@ fn side_of(wants: f64) -> Side
 }
 
 // Once credit and tokens hold.
+#[tactic(auto, unfolding(crate::specs::Rules::reserved, crate::specs::Rules::first))]
 fn reserved(wants: f64, rank: f64, buckets: [Bucket; DIMS], cost: [f64; DIMS]) -> Rule
     ensures { result ≡ rules.reserved wants (verdicts.mark_of wants rank) buckets cost }
 {
@@ -108,18 +96,17 @@ fn reserved(wants: f64, rank: f64, buckets: [Bucket; DIMS], cost: [f64; DIMS]) -
         return Rule::Admitted(wants);
     }
     let mark = mark_of(wants, rank);
-    let d = reserve_lacks(buckets, cost, mark);
-    if d < DIMS {
-        let b = buckets[d];
-        return Rule::Reserve {
+    match reserve_lacks(buckets, cost, mark) {
+        Some(d) => Rule::Reserve {
             dim: dim_at(d),
             mark,
-            part: part_of(b, cost[d]),
-        };
+            part: part_of(buckets[d], cost[d]),
+        },
+        None => Rule::Admitted(wants),
     }
-    Rule::Admitted(wants)
 }
 
+#[tactic(auto, unfolding(crate::specs::Rules::rule_of, crate::specs::Rules::first))]
 pub fn rule_of(
     wants: f64,
     rank: f64,
@@ -129,13 +116,11 @@ pub fn rule_of(
 ) -> Rule
     ensures { result ≡ rules.rule_of wants rank credit buckets cost }
 {
-    let c = credit_lacks(credit, cost);
-    if c < DIMS {
-        return Rule::Credit(side_of(wants), dim_at(c));
+    if let Some(d) = credit_lacks(credit, cost) {
+        return Rule::Credit(side_of(wants), dim_at(d));
     }
-    let t = tokens_lack(buckets, cost);
-    if t < DIMS {
-        return Rule::Tokens(side_of(wants), dim_at(t));
+    if let Some(d) = tokens_lack(buckets, cost) {
+        return Rule::Tokens(side_of(wants), dim_at(d));
     }
     reserved(wants, rank, buckets, cost)
 }
@@ -146,15 +131,7 @@ pub fn verdict_of(rule: Rule) -> Verdict
 {
     match rule {
         Rule::Admitted(_) => Verdict::Admitted,
-        Rule::Credit(_, _) => Verdict::OverShare,
-        Rule::Tokens(side, _) => match side {
-            Side::Within => Verdict::RelayRate,
-            Side::Over => Verdict::OverShare,
-        },
-        Rule::Reserve {
-            dim: _,
-            mark: _,
-            part: _,
-        } => Verdict::OverShare,
+        Rule::Tokens(Side::Within, _) => Verdict::RelayRate,
+        Rule::Credit(..) | Rule::Tokens(Side::Over, _) | Rule::Reserve { .. } => Verdict::OverShare,
     }
 }

@@ -1,5 +1,6 @@
 -- The part of its octave that a significand stands in is m, m + 1 or m + 2, with m its sixteenth by even steps. Assumes nothing.
-use Rattle.std.proofs.Common.{◌≡◌, ℕ, ◌+◌, ◌-◌, ◌*◌, ◌/◌, ◌^◌, ◌<◌, ◌≤◌, Bool, true, false, cond, ◌&&◌, T, leb, refl, subst, le_trans, lt_of_lt_of_le, not-le_of_lt, arith, leb→le, pow_mono, leb-false, leb-true}
+use Rattle.std.proofs.Common.{◌≡◌, ℕ, ◌+◌, ◌-◌, ◌*◌, ◌/◌, ◌^◌, ◌<◌, ◌≤◌, Bool, true, false, ◌&&◌, T, leb, refl, subst, le_trans, lt_of_lt_of_le, not-le_of_lt, arith, leb→le, pow_mono, leb-false, leb-true}
+use Rattle.std.specs.Int.{from_bool}
 use native.Mathlib.Nat.{pow-le-pow_left, pow-lt-pow_left}
 use native.Mathlib.Decide.{dec_le}
 use lib.Ieee.Fits.{and_l, and_r}
@@ -48,7 +49,7 @@ module _ (s m t u : ℕ) (small : s < 2 ^ 53) (f : From m s) (w : Under (m + 3) 
   part : (j k i : ℕ) → From j s → Under k s → k ≡ j + 1 → i ≡ j → Sixteenth s i
   part j k i f w next is = rw is (record { within = ordered j 16 s f (under_last 16 s (omega arith) small); from = f; under = subst (λ (n : ℕ). Under n s) next w })
 
-  told : (a b : Bool) → leb t s ≡ a → leb u s ≡ b → Sixteenth s (m + cond a 1 0 + cond b 1 0)
+  told : (a b : Bool) → leb t s ≡ a → leb u s ≡ b → Sixteenth s (m + from_bool a + from_bool b)
   told false false p q = part m (m + 1) _ f (x.under s small (leb-false t s p)) (omega arith) (omega arith)
   told true false p q = part (m + 1) (m + 2) _ (x.from s small (leb-true t s p)) (y.under s small (leb-false u s q)) (omega arith) (omega arith)
   told true true p q = part (m + 2) (m + 3) _ (y.from s small (leb-true u s q)) w (omega arith) (omega arith)
@@ -56,7 +57,7 @@ module _ (s m t u : ℕ) (small : s < 2 ^ 53) (f : From m s) (w : Under (m + 3) 
       let z : m + 2 < m + 1 = ordered (m + 2) (m + 1) s (y.from s small (leb-true u s q)) (x.under s small (leb-false t s p)) in absurd (omega arith)
 
 pub sixteenth_is : (s t u : ℕ) → 2 ^ 52 ≤ s → s < 2 ^ 53 → Threshold ((s - 2 ^ 52) / 2 ^ 48 + 1) t → Threshold ((s - 2 ^ 52) / 2 ^ 48 + 2) u
-    → Sixteenth s ((s - 2 ^ 52) / 2 ^ 48 + cond (leb t s) 1 0 + cond (leb u s) 1 0)
+    → Sixteenth s ((s - 2 ^ 52) / 2 ^ 48 + from_bool (leb t s) + from_bool (leb u s))
 unfolding step
 sixteenth_is s t u h l x y =
     let m : ℕ = (s - 2 ^ 52) / 2 ^ 48 in

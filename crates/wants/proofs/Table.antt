@@ -1,5 +1,5 @@
 -- The thresholds of `least` in src/bucket.rt, and the one test of every entry, which antt computes. Assumes nothing.
-use Rattle.std.proofs.Common.{ℕ, ◌+◌, ◌-◌, ◌^◌, ◌≤◌, Bool, ◌&&◌, T, ltb, leb, List, [], ◌∷◌, get_or}
+use Rattle.std.proofs.Common.{ℕ, ◌+◌, ◌-◌, ◌^◌, Bool, ◌&&◌, T, ltb, leb, List, [], ◌∷◌, get_or}
 use Rattle.wants.proofs.Each.{upto}
 
 unfoldable pub table : List ℕ

@@ -1,5 +1,5 @@
 // The bucket of a want.
-ghost use Rattle.std.specs.Prelude.{◌≡◌, ◌<◌, ◌≤◌, if◌then◌else◌};
+ghost use Rattle.std.specs.Prelude.{◌≡◌, ◌^◌, ◌<◌, ◌≤◌};
 ghost use Rattle.wants.specs.Bucket as bucket;
 
 // Buckets to an octave of wants, and octaves, from a want of 1 on.
@@ -14,14 +14,13 @@ pub const BUCKETS: usize = BUCKETS_PER_OCTAVE * OCTAVES;
 const LAST: usize = BUCKETS - 1;
 
 // 2^52: the weight of a double's exponent in its bit pattern, and of the leading digit in its significand.
-const LEADING: u64 = 0x10000000000000;
+const LEADING: u64 = 1 << 52;
 
 // 2^48: of sixteen even steps of the significand through its octave, the size of one.
-const EVEN: u64 = 0x1000000000000;
+const EVEN: u64 = 1 << 48;
 
 // For j = 0 to 15 the least double w from 1 on with w^16 ≥ 2^j, as its significand w × 2^52: 1, and the digits of its bit
-// pattern. From 16 on 2^53, which no significand reaches. A match, since the compiler reads it out of read-only memory, where
-// a constant array is stored to the stack first.
+// pattern. From 16 on 2^53, which no significand reaches.
 fn least(j: u64) -> u64
     ensures { bucket.Threshold j result }
 {
@@ -46,25 +45,19 @@ fn least(j: u64) -> u64
     }
 }
 
-// What a comparison says as a number: the compiler makes no jump of it.
-fn one_if(yes: bool) -> u64
-    ensures value { result ≡ (if yes then 1 else 0) }
-    ensures upper_bound { result ≤ 1 }
-{
-    if yes { 1 } else { 0 }
-}
-
 // The part of its octave that a significand s stands in, of sixteen: the largest j with 2^j ≤ (s / 2^52)^16. It is m, m + 1
 // or m + 2, with m the sixteenth by even steps, so two comparisons tell it, and no jump depends on s.
 fn sixteenth(s: u64) -> usize
-    requires { (0x10000000000000 ≤ s) × (s < 0x20000000000000) }
+    requires { (2 ^ 52 ≤ s) × (s < 2 ^ 53) }
     ensures { bucket.Sixteenth s result }
 {
     let m = (s - LEADING) / EVEN;
-    (m + one_if(least(m + 1) <= s) + one_if(least(m + 2) <= s)) as usize
+    // Each comparison is added as a number, so the compiler makes no jump of it.
+    (m + u64::from(least(m + 1) <= s) + u64::from(least(m + 2) <= s)) as usize
 }
 
 // The want, or 1 where it is not above 1 or not-a-number. The compiler makes a maximum of it, with no jump.
+#[tactic(auto, unfolding(crate::specs::Bucket::at_least_one))]
 fn at_least_one(want: f64) -> f64
     ensures { result ≡ bucket.at_least_one want }
 {

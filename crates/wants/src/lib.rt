@@ -3,7 +3,6 @@
 
 ghost use Rattle.flow.specs.Flow.{dims};
 ghost use Rattle.std.specs.Prelude.{◌≡◌, ◌<◌, [], slice_index_or};
-ghost use Rattle.ieee.specs.Doubles.{whole, infinity};
 ghost use Rattle.wants.specs.Bucket as bucket;
 ghost use Rattle.wants.specs.Wants as wants;
 
@@ -19,44 +18,23 @@ pub type Counts = [[u32; BUCKETS]; DIMS];
 pub type Sums = [[f64; BUCKETS]; DIMS];
 
 // As a scan begins: no wants.
+#[tactic(auto, unfolding(crate::specs::Wants::cleared))]
 pub fn clear(counts: &mut Counts, sums: &mut Sums)
     ensures { wants.hist counts.new sums.new ≡ wants.cleared }
 {
-    let none = [0u32; BUCKETS];
-    *counts = [none; DIMS];
-    let nothing = [0.0f64; BUCKETS];
-    *sums = [nothing; DIMS];
+    *counts = [[0; BUCKETS]; DIMS];
+    *sums = [[0.0; BUCKETS]; DIMS];
 }
 
 // Counts one unit's want in a dimension; the count wraps, as in a release build.
+#[tactic(auto, unfolding(crate::specs::Wants::added, crate::specs::Wants::one_more, crate::specs::Wants::plus))]
 pub fn add(counts: &mut Counts, sums: &mut Sums, dim: usize, want: f64)
     requires { dim < dims }
     ensures { wants.hist counts.new sums.new ≡ wants.added (wants.hist counts.old sums.old) dim want }
 {
     let b = bucket_of(want);
-    let n = counts[dim][b];
-    counts[dim][b] = std::num::wrapping_add_u32(n, 1);
-    let s = sums[dim][b];
-    sums[dim][b] = s + want;
-}
-
-fn number(n: u32) -> f64
-    ensures { result ≡ whole n }
-{
-    n as f64
-}
-
-// Rattle has no f64::INFINITY: by its bit pattern.
-fn infinity() -> f64
-    ensures { result ≡ infinity }
-{
-    f64::from_bits(9218868437227405312)
-}
-
-fn wide(n: u32) -> u64
-    ensures { (result ≡ n) × (result < 4294967296) }
-{
-    n as u64
+    counts[dim][b] = counts[dim][b].wrapping_add(1);
+    sums[dim][b] += want;
 }
 
 // The number of units counted in a dimension. The definition sums doubles from the lowest bucket up. Each of those sums is
@@ -66,10 +44,8 @@ fn counted(counts: &Counts, dim: usize) -> f64
     ensures { result ≡ wants.counted (slice_index_or counts.now dim []) bucket.«BUCKETS» }
 {
     let mut total = 0;
-    let mut i = 0;
-    while i < BUCKETS {
-        total = total + wide(counts[dim][i]);
-        i += 1;
+    for n in &counts[dim] {
+        total += u64::from(*n);
     }
     flow::whole(total)
 }
@@ -82,22 +58,19 @@ pub fn level(counts: &Counts, sums: &Sums, dim: usize, rate: f64) -> f64
 {
     let mut left = rate;
     let mut remaining = counted(counts, dim);
-    let mut b = 0;
-    while b < BUCKETS {
+    for b in 0..BUCKETS {
         let n = counts[dim][b];
         if n == 0 {
-            b += 1;
+            continue;
+        }
+        let count = f64::from(n);
+        let sum = sums[dim][b];
+        if sum / count * remaining <= left {
+            left -= sum;
+            remaining -= count;
         } else {
-            let count = number(n);
-            let sum = sums[dim][b];
-            if sum / count * remaining <= left {
-                left = left - sum;
-                remaining = remaining - count;
-                b += 1;
-            } else {
-                return left / remaining;
-            }
+            return left / remaining;
         }
     }
-    infinity()
+    f64::INFINITY
 }

@@ -5,5 +5,5 @@ use Rattle.wants.proofs.bucket.sixteenth.Goals as goal
 
 pub returns : goal.returns
 returns c =
-    rw (c.one_if-2.ensures.value, c.one_if.ensures.value) (
+    rw (c.from-2.ensures, c.from.ensures) (
     sixteenth_is _ _ _ (search rules) (search rules) c.least.ensures c.least-2.ensures)
