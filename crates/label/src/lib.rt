@@ -12,10 +12,9 @@ use sender::{Group, PublicKey, Unit};
 // The longest label, that of a key.
 pub const LABEL_MOST: usize = 68;
 
+#[tactic(auto, using(crate::proofs::Labels::five_written, text::proofs::Numbers::length_word), unfolding(crate::specs::Label::key_label))]
 fn key_text(key: PublicKey, out: &mut [u8; LABEL_MOST]) -> usize
-    ensures prefix_len { IsPrefixLen result out.new }
-    ensures out_after { take result out.new ≡ key_label key }
-    ensures result_after { page out.new result ≡ placed (page out.old 0) (key_label key) }
+    ensures { page out.new result ≡ write (page out.old 0) (key_label key) }
 {
     let colon = text::put(out, 0, b"key:");
     let a = text::put_word(out, colon, key.a);
@@ -24,28 +23,40 @@ fn key_text(key: PublicKey, out: &mut [u8; LABEL_MOST]) -> usize
     text::put_word(out, c, key.d)
 }
 
+#[tactic(auto, using(crate::proofs::Labels::five_written, crate::proofs::Labels::decimal_short), unfolding(crate::specs::Label::v4_label))]
 fn v4_text(prefix: u16, out: &mut [u8; LABEL_MOST]) -> usize
-    ensures prefix_len { IsPrefixLen result out.new }
-    ensures out_after { take result out.new ≡ v4_label prefix }
-    ensures result_after { page out.new result ≡ placed (page out.old 0) (v4_label prefix) }
+    ensures { page out.new result ≡ write (page out.old 0) (v4_label prefix) }
 {
+    let [high, low] = prefix.to_be_bytes();
     let colon = text::put(out, 0, b"v4:");
-    let first = text::put_decimal(out, colon, (prefix / 256) as u64);
+    let first = text::put_decimal(out, colon, u64::from(high));
     let dot = text::put(out, first, b".");
-    let second = text::put_decimal(out, dot, (prefix % 256) as u64);
+    let second = text::put_decimal(out, dot, u64::from(low));
     text::put(out, second, b".0.0/16")
 }
 
+#[tactic(auto, using(crate::proofs::Labels::five_written, crate::proofs::Labels::hexadecimal_short), unfolding(crate::specs::Label::v6_label))]
 fn v6_text(prefix: u32, out: &mut [u8; LABEL_MOST]) -> usize
-    ensures prefix_len { IsPrefixLen result out.new }
-    ensures out_after { take result out.new ≡ v6_label prefix }
-    ensures result_after { page out.new result ≡ placed (page out.old 0) (v6_label prefix) }
+    ensures { page out.new result ≡ write (page out.old 0) (v6_label prefix) }
 {
     let colon = text::put(out, 0, b"v6:");
-    let first = text::put_hexadecimal(out, colon, (prefix / 65536) as u64);
+    let first = text::put_hexadecimal(out, colon, u64::from(prefix >> 16));
     let dot = text::put(out, first, b":");
-    let second = text::put_hexadecimal(out, dot, (prefix % 65536) as u64);
+    let second = text::put_hexadecimal(out, dot, u64::from(prefix % (1 << 16)));
     text::put(out, second, b"::/32")
+}
+
+#[tactic(auto, unfolding(crate::specs::Label::label))]
+fn put_at_front(unit: Unit, out: &mut [u8; LABEL_MOST]) -> usize
+    ensures { page out.new result ≡ write (page out.old 0) (label unit) }
+{
+    match unit {
+        Unit::Corroborated(key) => key_text(key, out),
+        Unit::Group(Group::V4(prefix)) => v4_text(prefix, out),
+        Unit::Group(Group::V6(prefix)) => v6_text(prefix, out),
+        Unit::NoAddress => text::put(out, 0, b"no-address"),
+        Unit::Overflow => text::put(out, 0, b"overflow"),
+    }
 }
 
 // The label at the front of out, which has room for each; every byte behind it is as it was. The answer is its length.
@@ -54,15 +65,7 @@ pub fn label_text(unit: Unit, out: &mut [u8; LABEL_MOST]) -> usize
     ensures out_after { take result out.new ≡ label unit }
     ensures result_after { page out.new result ≡ placed (page out.old 0) (label unit) }
 {
-    match unit {
-        Unit::Corroborated(key) => key_text(key, out),
-        Unit::Group(group) => match group {
-            Group::V4(prefix) => v4_text(prefix, out),
-            Group::V6(prefix) => v6_text(prefix, out),
-        },
-        Unit::NoAddress => text::put(out, 0, b"no-address"),
-        Unit::Overflow => text::put(out, 0, b"overflow"),
-    }
+    put_at_front(unit, out)
 }
 
 // Puts the label of unit into out from the place at on, as text::put does: answers the place behind
