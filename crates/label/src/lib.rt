@@ -1,7 +1,7 @@
 // The label of a unit: the text that names it in a report and in a line of the trial.
 #![tactic(auto)]
 
-ghost use Rattle.std.specs.Prelude.{◌≡◌, length, take};
+ghost use Rattle.std.specs.Prelude.{◌≡◌, ◌≤◌, length, take};
 ghost use Rattle.io.specs.Counts.{IsPrefixLen};
 ghost use Rattle.text.specs.Page.{page, placed, write};
 ghost use Rattle.text.specs.Order.{less as before};
@@ -68,30 +68,47 @@ pub fn label_text(unit: Unit, out: &mut [u8; LABEL_MOST]) -> usize
     put_at_front(unit, out)
 }
 
+// A label by value.
+#[derive(Clone, Copy)]
+struct Label {
+    bytes: [u8; LABEL_MOST],
+    len: usize,
+    ghost fits: { len ≤ 68 },
+}
+
+impl Label {
+    fn of(unit: Unit) -> Label
+        ensures { take result.len result.bytes ≡ label unit }
+    {
+        let mut bytes = [0; LABEL_MOST];
+        let len = label_text(unit, &mut bytes);
+        Label { bytes, len }
+    }
+
+    fn as_bytes(&self) -> &[u8]
+        ensures { result.now ≡ take self.now.len self.now.bytes }
+    {
+        &self.bytes[..self.len]
+    }
+}
+
 // Puts the label of unit into out from the place at on, as text::put does: answers the place behind
 // it, and at itself where it does not fit, with nothing written. No label is empty.
 pub fn write_label(unit: Unit, out: &mut [u8], at: usize) -> usize
     ensures { page out.new result ≡ write (page out.old at) (label unit) }
 {
-    let mut own = [0u8; LABEL_MOST];
-    let n = label_text(unit, &mut own);
-    text::put(out, at, &own[..n])
+    text::put(out, at, Label::of(unit).as_bytes())
 }
 
 pub fn label_length(unit: Unit) -> usize
     ensures { result ≡ length (label unit) }
 {
-    let mut own = [0u8; LABEL_MOST];
-    label_text(unit, &mut own)
+    Label::of(unit).as_bytes().len()
 }
 
 // Whether the label of a stands before that of b in the order of bytes.
 pub fn label_less(a: Unit, b: Unit) -> bool
     ensures { result ≡ before (label a) (label b) }
 {
-    let mut of_a = [0u8; LABEL_MOST];
-    let mut of_b = [0u8; LABEL_MOST];
-    let m = label_text(a, &mut of_a);
-    let n = label_text(b, &mut of_b);
-    text::less(&of_a[..m], &of_b[..n])
+    text::less(Label::of(a).as_bytes(), Label::of(b).as_bytes())
 }
