@@ -66,6 +66,7 @@ fn put_cause(out: &mut [u8], at: usize, word: &[u8], head: Shedder, i: usize) ->
     put_line(out, at, word, &[head.batches[i], head.receptions[i]])
 }
 
+#[tactic(auto, using(crate::proofs::Writing::head_put, crate::proofs::Lengths::head_short))]
 fn put_head(out: &mut [u8], at: usize, head: Shedder) -> usize
     ensures result_after { page out.new result ≡ writes (page out.old at) (lines.head_lines head) }
     ensures head_len_bound { length (joined (lines.head_lines head)) ≤ lines.head_most }
@@ -92,6 +93,7 @@ fn put_source(out: &mut [u8], at: usize, counted: &[SourceRow], i: usize) -> usi
 }
 
 // The sources named, of the first n: each the first of those after the one before.
+#[tactic(auto, using(crate::proofs::Writing::sources_next, crate::proofs::Writing::sources_none, crate::proofs::Writing::sources_end))]
 fn put_sources(out: &mut [u8], at: usize, counted: &[SourceRow], n: usize) -> usize
     requires { n ≤ length counted.now }
     ensures { page out.new result ≡ writes (page out.old at) (lines.source_lines counted.now (sources.reported counted.now n)) }
