@@ -66,6 +66,7 @@ fn put_cause(out: &mut [u8], at: usize, word: &[u8], head: Shedder, i: usize) ->
     put_line(out, at, word, &[head.batches[i], head.receptions[i]])
 }
 
+// A line for each cause, as the definition has them: a loop over their words would be no plainer.
 #[tactic(auto, using(crate::proofs::Writing::head_put, crate::proofs::Lengths::head_short))]
 fn put_head(out: &mut [u8], at: usize, head: Shedder) -> usize
     ensures result_after { page out.new result ≡ writes (page out.old at) (lines.head_lines head) }
