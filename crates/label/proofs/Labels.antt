@@ -1,14 +1,18 @@
 -- Labels as written: five texts one after the other, and no label is longer than a key's. Assumes nothing.
-use mathlib.Core.Path.{◌≡◌, sym, ap, ◌∙◌}
+use mathlib.Core.Path.{◌≡◌, ap, ◌∙◌}
 use mathlib.Core.List.{List, [], ◌∷◌}
-use Prim.Native.Nat.{ℕ, ◌+◌, ◌≤◌}
+use Prim.Native.Nat.{ℕ, ◌+◌, ◌≤◌, ◌/◌, ◌%◌}
 use native.Mathlib.Omega.{arith}
-use lib.ListN.{length, take, length-append}
-use Rattle.io.specs.Counts.{IsPrefixLen}
-use Rattle.text.specs.Page.{Page, page, placed, write, writes, joined}
+use lib.ListN.{length, length-append}
+use Rattle.text.specs.Page.{Page, page, write, writes, joined}
 use Rattle.text.specs.Number.{decimal, hexadecimal}
-use Rattle.text.proofs.Writing.{fits, writes_joined, front}
-use Rattle.text.proofs.Numbers.{numeral_short}
+use Rattle.text.proofs.Writing.{writes_joined}
+use Rattle.text.proofs.Numbers.{numeral_short, length_word}
+use Rattle.sender.specs.declared.PublicKey.{PublicKey}
+use Rattle.sender.specs.declared.Group.TheVariants.{V4, V6}
+use Rattle.sender.specs.declared.Unit.{Unit}
+use Rattle.sender.specs.declared.Unit.TheVariants.{Corroborated, Group as Grouped, NoAddress, Overflow}
+use Rattle.label.specs.Label.{label, key_label, v4_label, v6_label}
 
 -- five texts joined, and their length
 module _ (a b c d e : List ℕ) where
@@ -19,24 +23,15 @@ module _ (a b c d e : List ℕ) where
   unfolding joined
   five_length = simp length-append (omega arith)
 
-  -- written one after the other from the front of a buffer with room for them, they are its front part, and what stands behind is as it was
-  pub five_front : (out : List ℕ) {p1 p2 p3 p4 : Page} (after : List ℕ) (r : ℕ)
-      → length a + (length b + (length c + (length d + length e))) ≤ length out
-      → p1 ≡ write (page out 0) a → p2 ≡ write p1 b → p3 ≡ write p2 c → p4 ≡ write p3 d → page after r ≡ write p4 e
-      → IsPrefixLen r after × ((take r after ≡ joined five) × (page after r ≡ placed (page out 0) (joined five)))
+  -- written one after the other into a buffer with room for them, they are their joined text written
+  pub five_written : (out : List ℕ) {p1 p2 p3 p4 p5 : Page} → length a + (length b + (length c + (length d + length e))) ≤ length out
+      → p1 ≡ write (page out 0) a → p2 ≡ write p1 b → p3 ≡ write p2 c → p4 ≡ write p3 d → p5 ≡ write p4 e → p5 ≡ write (page out 0) (joined five)
   unfolding writes
-  five_front out after r room e1 e2 e3 e4 e5 =
-      let w : page after r ≡ write (page out 0) (joined five) =
+  five_written out room e1 e2 e3 e4 e5 =
       e5
       ∙ ap (λ (p : Page). write p e)
       (e4 ∙ ap (λ (p : Page). write p d) (e3 ∙ ap (λ (p : Page). write p c) (e2 ∙ ap (λ (p : Page). write p b) e1)))
-      ∙ writes_joined (page out 0) five (omega (arith, five_length)) in
-      let f = front out (joined five) after r (omega (arith, five_length)) w in
-      (f.0, (f.1, w ∙ fits (page out 0) (joined five) (omega (arith, five_length))))
-
--- a front part that is equal to another text is that text, put there
-pub front_as : (out a b after : List ℕ) (r : ℕ) → IsPrefixLen r after × ((take r after ≡ a) × (page after r ≡ placed (page out 0) a)) → take r after ≡ b → IsPrefixLen r after × ((take r after ≡ b) × (page after r ≡ placed (page out 0) b))
-front_as out a b after r w q = (w.0, (q, w.1.1 ∙ ap (placed (page out 0)) (sym w.1.0 ∙ q)))
+      ∙ writes_joined (page out 0) five (omega (arith, five_length))
 
 pub decimal_short : (n : ℕ) → length (decimal n) ≤ 20
 unfolding decimal
@@ -45,3 +40,24 @@ decimal_short n = numeral_short 10 20 n
 pub hexadecimal_short : (n : ℕ) → length (hexadecimal n) ≤ 16
 unfolding hexadecimal
 hexadecimal_short n = numeral_short 16 16 n
+
+pub key_short : (k : PublicKey) → length (key_label k) ≤ 68
+unfolding key_label joined
+key_short k = simp (length-append, length_word) (omega arith)
+
+pub v4_short : (n : ℕ) → length (v4_label n) ≤ 68
+unfolding v4_label joined
+v4_short n = simp length-append (omega (arith, decimal_short (n / 256), decimal_short (n % 256)))
+
+pub v6_short : (n : ℕ) → length (v6_label n) ≤ 68
+unfolding v6_label joined
+v6_short n = simp length-append (omega (arith, hexadecimal_short (n / 65536), hexadecimal_short (n % 65536)))
+
+-- no label is longer than a key's
+pub label_short : (u : Unit) → length (label u) ≤ 68
+unfolding label
+label_short (Corroborated k) = key_short k
+label_short (Grouped (V4 n)) = v4_short n
+label_short (Grouped (V6 n)) = v6_short n
+label_short NoAddress = omega arith
+label_short Overflow = omega arith

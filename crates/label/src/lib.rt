@@ -1,7 +1,7 @@
 // The label of a unit: the text that names it in a report and in a line of the trial.
 #![tactic(auto)]
 
-ghost use Rattle.std.specs.Prelude.{◌≡◌, length, take};
+ghost use Rattle.std.specs.Prelude.{◌≡◌, ◌≤◌, length, take};
 ghost use Rattle.io.specs.Counts.{IsPrefixLen};
 ghost use Rattle.text.specs.Page.{page, placed, write};
 ghost use Rattle.text.specs.Order.{less as before};
@@ -12,10 +12,11 @@ use sender::{Group, PublicKey, Unit};
 // The longest label, that of a key.
 pub const LABEL_MOST: usize = 68;
 
+// Put by the functions of text and not by `write!`, whose contract says what is written where it answers Ok, and not that it
+// does: a label is written for each unit.
+#[tactic(auto, using(crate::proofs::Labels::five_written, text::proofs::Numbers::length_word), unfolding(crate::specs::Label::key_label))]
 fn key_text(key: PublicKey, out: &mut [u8; LABEL_MOST]) -> usize
-    ensures prefix_len { IsPrefixLen result out.new }
-    ensures out_after { take result out.new ≡ key_label key }
-    ensures result_after { page out.new result ≡ placed (page out.old 0) (key_label key) }
+    ensures { page out.new result ≡ write (page out.old 0) (key_label key) }
 {
     let colon = text::put(out, 0, b"key:");
     let a = text::put_word(out, colon, key.a);
@@ -24,28 +25,40 @@ fn key_text(key: PublicKey, out: &mut [u8; LABEL_MOST]) -> usize
     text::put_word(out, c, key.d)
 }
 
+#[tactic(auto, using(crate::proofs::Labels::five_written, crate::proofs::Labels::decimal_short), unfolding(crate::specs::Label::v4_label))]
 fn v4_text(prefix: u16, out: &mut [u8; LABEL_MOST]) -> usize
-    ensures prefix_len { IsPrefixLen result out.new }
-    ensures out_after { take result out.new ≡ v4_label prefix }
-    ensures result_after { page out.new result ≡ placed (page out.old 0) (v4_label prefix) }
+    ensures { page out.new result ≡ write (page out.old 0) (v4_label prefix) }
 {
+    let [high, low] = prefix.to_be_bytes();
     let colon = text::put(out, 0, b"v4:");
-    let first = text::put_decimal(out, colon, (prefix / 256) as u64);
+    let first = text::put_decimal(out, colon, u64::from(high));
     let dot = text::put(out, first, b".");
-    let second = text::put_decimal(out, dot, (prefix % 256) as u64);
+    let second = text::put_decimal(out, dot, u64::from(low));
     text::put(out, second, b".0.0/16")
 }
 
+#[tactic(auto, using(crate::proofs::Labels::five_written, crate::proofs::Labels::hexadecimal_short), unfolding(crate::specs::Label::v6_label))]
 fn v6_text(prefix: u32, out: &mut [u8; LABEL_MOST]) -> usize
-    ensures prefix_len { IsPrefixLen result out.new }
-    ensures out_after { take result out.new ≡ v6_label prefix }
-    ensures result_after { page out.new result ≡ placed (page out.old 0) (v6_label prefix) }
+    ensures { page out.new result ≡ write (page out.old 0) (v6_label prefix) }
 {
     let colon = text::put(out, 0, b"v6:");
-    let first = text::put_hexadecimal(out, colon, (prefix / 65536) as u64);
+    let first = text::put_hexadecimal(out, colon, u64::from(prefix >> 16));
     let dot = text::put(out, first, b":");
-    let second = text::put_hexadecimal(out, dot, (prefix % 65536) as u64);
+    let second = text::put_hexadecimal(out, dot, u64::from(prefix % (1 << 16)));
     text::put(out, second, b"::/32")
+}
+
+#[tactic(auto, unfolding(crate::specs::Label::label))]
+fn put_at_front(unit: Unit, out: &mut [u8; LABEL_MOST]) -> usize
+    ensures { page out.new result ≡ write (page out.old 0) (label unit) }
+{
+    match unit {
+        Unit::Corroborated(key) => key_text(key, out),
+        Unit::Group(Group::V4(prefix)) => v4_text(prefix, out),
+        Unit::Group(Group::V6(prefix)) => v6_text(prefix, out),
+        Unit::NoAddress => text::put(out, 0, b"no-address"),
+        Unit::Overflow => text::put(out, 0, b"overflow"),
+    }
 }
 
 // The label at the front of out, which has room for each; every byte behind it is as it was. The answer is its length.
@@ -54,14 +67,30 @@ pub fn label_text(unit: Unit, out: &mut [u8; LABEL_MOST]) -> usize
     ensures out_after { take result out.new ≡ label unit }
     ensures result_after { page out.new result ≡ placed (page out.old 0) (label unit) }
 {
-    match unit {
-        Unit::Corroborated(key) => key_text(key, out),
-        Unit::Group(group) => match group {
-            Group::V4(prefix) => v4_text(prefix, out),
-            Group::V6(prefix) => v6_text(prefix, out),
-        },
-        Unit::NoAddress => text::put(out, 0, b"no-address"),
-        Unit::Overflow => text::put(out, 0, b"overflow"),
+    put_at_front(unit, out)
+}
+
+// A label by value.
+#[derive(Clone, Copy)]
+struct Label {
+    bytes: [u8; LABEL_MOST],
+    len: usize,
+    ghost fits: { len ≤ 68 },
+}
+
+impl Label {
+    fn of(unit: Unit) -> Label
+        ensures { take result.len result.bytes ≡ label unit }
+    {
+        let mut bytes = [0; LABEL_MOST];
+        let len = label_text(unit, &mut bytes);
+        Label { bytes, len }
+    }
+
+    fn as_bytes(&self) -> &[u8]
+        ensures { result.now ≡ take self.now.len self.now.bytes }
+    {
+        &self.bytes[..self.len]
     }
 }
 
@@ -70,25 +99,18 @@ pub fn label_text(unit: Unit, out: &mut [u8; LABEL_MOST]) -> usize
 pub fn write_label(unit: Unit, out: &mut [u8], at: usize) -> usize
     ensures { page out.new result ≡ write (page out.old at) (label unit) }
 {
-    let mut own = [0u8; LABEL_MOST];
-    let n = label_text(unit, &mut own);
-    text::put(out, at, &own[..n])
+    text::put(out, at, Label::of(unit).as_bytes())
 }
 
 pub fn label_length(unit: Unit) -> usize
     ensures { result ≡ length (label unit) }
 {
-    let mut own = [0u8; LABEL_MOST];
-    label_text(unit, &mut own)
+    Label::of(unit).as_bytes().len()
 }
 
 // Whether the label of a stands before that of b in the order of bytes.
 pub fn label_less(a: Unit, b: Unit) -> bool
     ensures { result ≡ before (label a) (label b) }
 {
-    let mut of_a = [0u8; LABEL_MOST];
-    let mut of_b = [0u8; LABEL_MOST];
-    let m = label_text(a, &mut of_a);
-    let n = label_text(b, &mut of_b);
-    text::less(&of_a[..m], &of_b[..n])
+    text::less(Label::of(a).as_bytes(), Label::of(b).as_bytes())
 }

@@ -14,7 +14,7 @@ use Rattle.sender.specs.declared.Group.TheVariants.{V4, V6}
 use Rattle.sender.specs.declared.Unit.{Unit}
 use Rattle.sender.specs.declared.Unit.TheVariants.{Corroborated, Group as Grouped, NoAddress, Overflow}
 use Rattle.label.specs.Label.{label, key_label, v4_label, v6_label}
-use Rattle.label.proofs.Labels.{decimal_short, hexadecimal_short}
+use Rattle.label.proofs.Labels.{decimal_short, label_short}
 use Rattle.flow.specs.Flow.{dims}
 use Rattle.head.specs.declared.Shedder.{Shedder}
 use Rattle.head.specs.Questions.{is_unbounded}
@@ -45,27 +45,6 @@ rates_short : (w : List ℕ) (t : Bool) (xs : List ℕ) → 0 < length xs → le
 unfolding rates_line joined
 rates_short w true xs h = omega (arith, length-append w (32 ∷ 110 ∷ 111 ∷ 110 ∷ 101 ∷ 10 ∷ []))
 rates_short w false xs h = line_short w xs
-
--- ---- a label
-key_short : (k : PublicKey) → length (key_label k) ≤ 68
-unfolding key_label joined
-key_short k = simp (length-append, length_word) (omega arith)
-
-v4_short : (n : ℕ) → length (v4_label n) ≤ 68
-unfolding v4_label joined
-v4_short n = simp length-append (omega (arith, decimal_short (n / 256), decimal_short (n % 256)))
-
-v6_short : (n : ℕ) → length (v6_label n) ≤ 68
-unfolding v6_label joined
-v6_short n = simp length-append (omega (arith, hexadecimal_short (n / 65536), hexadecimal_short (n % 65536)))
-
-label_short : (u : Unit) → length (label u) ≤ 68
-unfolding label
-label_short (Corroborated k) = key_short k
-label_short (Grouped (V4 n)) = v4_short n
-label_short (Grouped (V6 n)) = v6_short n
-label_short NoAddress = omega arith
-label_short Overflow = omega arith
 
 -- ---- the sources
 source_short : (rows : List (List ℕ)) (i : ℕ) → length (joined (source_line rows i)) ≤ 139

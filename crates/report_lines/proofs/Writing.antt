@@ -32,37 +32,33 @@ pub numbers_next : (p : Page) (xs : List ℕ) (i : ℕ) → i < length xs
 unfolding writes numbers
 numbers_next p xs i h = rw (add-one, drop-cons xs i 0)
 
-pub numbers-end : (p : Page) (xs : List ℕ) (i : ℕ) → length xs ≤ i → writes p (numbers (drop i xs)) ≡ write p line_feed
+pub numbers_end : (p : Page) (xs : List ℕ) (i : ℕ) → length xs ≤ i → writes p (numbers (drop i xs)) ≡ write p line_feed
 unfolding writes numbers
-numbers-end p xs i h = rw (drop_of_length-le xs {i = i} h)
+numbers_end p xs i h = rw (drop_of_length-le xs {i = i} h)
 
 -- ---- the sources named from `last` on, k of them at most
-named_step : (rows : List (List ℕ)) (n k last : ℕ) → 0 < k
-    → named rows n k last ≡ cond (eqb (first_after rows n last n) n) [] (first_after rows n last n ∷ named rows n (k - 1) (first_after rows n last n))
+named_step : (rows : List (List ℕ)) (n k j last : ℕ) → k ≡ suc j
+    → named rows n k last ≡ cond (eqb (first_after rows n last n) n) [] (first_after rows n last n ∷ named rows n j (first_after rows n last n))
 unfolding named
-named_step rows n zero last h = absurd (omega arith)
-named_step rows n (suc k) last h = let e : suc k - 1 ≡ k = omega arith in rw e
+named_step rows n k j last e = rw e
 
-named_some : (rows : List (List ℕ)) (n k last : ℕ) → 0 < k → (first_after rows n last n ≡ n → ⊥)
-    → named rows n k last ≡ first_after rows n last n ∷ named rows n (k - 1) (first_after rows n last n)
-named_some rows n k last h some = rw (named_step rows n k last h, ne_eqb (first_after rows n last n) n some)
-
-named_none : (rows : List (List ℕ)) (n k last : ℕ) → 0 < k → first_after rows n last n ≡ n → named rows n k last ≡ []
-named_none rows n k last h none = rw (named_step rows n k last h, eq-eqb (first_after rows n last n) n none)
-
-module _ (rows : List (List ℕ)) (n k last next : ℕ) (more : 0 < k) (is : next ≡ first_after rows n last n) where
+module _ (rows : List (List ℕ)) (n k j last next : ℕ) (more : k ≡ suc j) (is : next ≡ first_after rows n last n) where
   pub sources_next : (p : Page) {q : Page} → (next ≡ n → ⊥) → q ≡ writes p (source_line rows next)
-      → writes p (source_lines rows (named rows n k last)) ≡ writes q (source_lines rows (named rows n (k - 1) next))
+      → writes p (source_lines rows (named rows n k last)) ≡ writes q (source_lines rows (named rows n j next))
   unfolding source_lines
   sources_next p some e =
-      ap (λ (l : List ℕ). writes p (source_lines rows l)) (named_some rows n k last more (λ z. some (is ∙ z)))
-      ∙ ap (λ (m : ℕ). writes p (source_line rows m ++ source_lines rows (named rows n (k - 1) m))) (sym is)
-      ∙ writes_append p (source_line rows next) (source_lines rows (named rows n (k - 1) next))
-      ∙ ap (λ (r : Page). writes r (source_lines rows (named rows n (k - 1) next))) (sym e)
+      let e0 : named rows n k last ≡ first_after rows n last n ∷ named rows n j (first_after rows n last n) =
+      rw (named_step rows n k j last more, ne_eqb (first_after rows n last n) n (λ z. some (is ∙ z))) in
+      ap (λ (l : List ℕ). writes p (source_lines rows l)) e0
+      ∙ ap (λ (m : ℕ). writes p (source_line rows m ++ source_lines rows (named rows n j m))) (sym is)
+      ∙ writes_append p (source_line rows next) (source_lines rows (named rows n j next))
+      ∙ ap (λ (r : Page). writes r (source_lines rows (named rows n j next))) (sym e)
 
   pub sources_none : (p : Page) → next ≡ n → writes p (source_lines rows (named rows n k last)) ≡ p
   unfolding source_lines writes
-  sources_none p none = ap (λ (l : List ℕ). writes p (source_lines rows l)) (named_none rows n k last more (sym is ∙ none))
+  sources_none p none =
+      let e0 : named rows n k last ≡ [] = rw (named_step rows n k j last more, eq-eqb (first_after rows n last n) n (sym is ∙ none)) in
+      ap (λ (l : List ℕ). writes p (source_lines rows l)) e0
 
 pub sources_end : (p : Page) (rows : List (List ℕ)) (n k last : ℕ) → k ≡ 0 → writes p (source_lines rows (named rows n k last)) ≡ p
 unfolding source_lines named writes

@@ -25,19 +25,19 @@ pub const TEXT_MOST: usize = 2 * (8 + DIMS * NUMBER_MOST)
     + SOURCES_REPORTED * (7 + LABEL_MOST + CAUSES * NUMBER_MOST + 1);
 
 // The rest of a line: each number behind a space, and the line feed.
+#[tactic(auto, using(crate::proofs::Writing::numbers_next, crate::proofs::Writing::numbers_end))]
 fn put_numbers(out: &mut [u8], at: usize, xs: &[u64]) -> usize
     ensures { page out.new result ≡ writes (page out.old at) (lines.numbers xs.now) }
 {
     let mut end = at;
-    let mut i = 0;
-    while i < xs.len() {
+    for x in xs {
         end = text::put_byte(out, end, b' ');
-        end = text::put_decimal(out, end, xs[i]);
-        i += 1;
+        end = text::put_decimal(out, end, *x);
     }
     text::put_byte(out, end, b'\n')
 }
 
+#[tactic(auto, unfolding(crate::specs::Lines::line, text::specs::Page::writes))]
 fn put_line(out: &mut [u8], at: usize, word: &[u8], xs: &[u64]) -> usize
     ensures { page out.new result ≡ writes (page out.old at) (lines.line word.now xs.now) }
 {
@@ -45,6 +45,7 @@ fn put_line(out: &mut [u8], at: usize, word: &[u8], xs: &[u64]) -> usize
     put_numbers(out, end, xs)
 }
 
+#[tactic(auto, unfolding(crate::specs::Lines::rates_line, text::specs::Page::writes))]
 fn put_rates(out: &mut [u8], at: usize, word: &[u8], unbounded: bool, xs: &[u64]) -> usize
     ensures { page out.new result ≡ writes (page out.old at) (lines.rates_line word.now unbounded xs.now) }
 {
@@ -57,33 +58,30 @@ fn put_rates(out: &mut [u8], at: usize, word: &[u8], unbounded: bool, xs: &[u64]
     put_line(out, at, word, xs)
 }
 
+#[tactic(auto, unfolding(crate::specs::Lines::cause_line))]
 fn put_cause(out: &mut [u8], at: usize, word: &[u8], head: Shedder, i: usize) -> usize
     requires { i < store.«CAUSES» }
     ensures { page out.new result ≡ writes (page out.old at) (lines.cause_line word.now i head) }
 {
-    let batches = head.batches;
-    let receptions = head.receptions;
-    let xs = [batches[i], receptions[i]];
-    put_line(out, at, word, &xs)
+    put_line(out, at, word, &[head.batches[i], head.receptions[i]])
 }
 
+// A line for each cause, as the definition has them: a loop over their words would be no plainer.
+#[tactic(auto, using(crate::proofs::Writing::head_put, crate::proofs::Lengths::head_short))]
 fn put_head(out: &mut [u8], at: usize, head: Shedder) -> usize
     ensures result_after { page out.new result ≡ writes (page out.old at) (lines.head_lines head) }
     ensures head_len_bound { length (joined (lines.head_lines head)) ≤ lines.head_most }
 {
-    let f = head.flow;
-    let rate = f.rate;
-    let ceiling = f.ceiling;
-    let unbounded = head::is_unbounded(rate);
-    let active = [head.tracked as u64];
-    let a = put_rates(out, at, b"rate", unbounded, &rate);
-    let b = put_rates(out, a, b"ceiling", unbounded, &ceiling);
-    let c = put_line(out, b, b"active", &active);
+    let unbounded = head::is_unbounded(head.flow.rate);
+    let a = put_rates(out, at, b"rate", unbounded, &head.flow.rate);
+    let b = put_rates(out, a, b"ceiling", unbounded, &head.flow.ceiling);
+    let c = put_line(out, b, b"active", &[head.tracked as u64]);
     let d = put_cause(out, c, b"receiver-ceiling", head, 0);
     let e = put_cause(out, d, b"over-share", head, 1);
     put_cause(out, e, b"relay-rate", head, 2)
 }
 
+#[tactic(auto, using(crate::proofs::Writing::source_put))]
 fn put_source(out: &mut [u8], at: usize, counted: &[SourceRow], i: usize) -> usize
     requires { i < length counted.now }
     ensures { page out.new result ≡ writes (page out.old at) (lines.source_line counted.now i) }
@@ -96,21 +94,20 @@ fn put_source(out: &mut [u8], at: usize, counted: &[SourceRow], i: usize) -> usi
 }
 
 // The sources named, of the first n: each the first of those after the one before.
+#[tactic(auto, using(crate::proofs::Writing::sources_next, crate::proofs::Writing::sources_none, crate::proofs::Writing::sources_end))]
 fn put_sources(out: &mut [u8], at: usize, counted: &[SourceRow], n: usize) -> usize
     requires { n ≤ length counted.now }
     ensures { page out.new result ≡ writes (page out.old at) (lines.source_lines counted.now (sources.reported counted.now n)) }
 {
     let mut end = at;
     let mut last = n;
-    let mut left = SOURCES_REPORTED;
-    while 0 < left {
+    for _ in 0..SOURCES_REPORTED {
         let next = first_after(counted, n, last);
         if next == n {
             return end;
         }
         end = put_source(out, end, counted, next);
         last = next;
-        left -= 1;
     }
     end
 }

@@ -14,7 +14,7 @@ pub use hash::{hash_of, rank, rank_of_hash, table_of, table_of_tag, tag_of_hash}
 pub use memory::{is_overflow, name_by_hash, name_of, same_unit, unit_of, words_of};
 
 // 32 bytes, the most significant byte of `a` first and the least significant of `d` last.
-#[derive(Clone, Copy)]
+#[derive(Clone, Copy, PartialEq, Eq, Debug)]
 pub struct PublicKey {
     pub a: u64,
     pub b: u64,
@@ -23,13 +23,13 @@ pub struct PublicKey {
 }
 
 // A network group: the first 16 bits of an IPv4 address, or the first 32 of an IPv6 address.
-#[derive(Clone, Copy)]
+#[derive(Clone, Copy, PartialEq, Eq, Debug)]
 pub enum Group {
     V4(u16),
     V6(u32),
 }
 
-#[derive(Clone, Copy)]
+#[derive(Clone, Copy, PartialEq, Eq, Debug)]
 pub enum Unit {
     Corroborated(PublicKey),
     Group(Group),
@@ -39,7 +39,7 @@ pub enum Unit {
 
 // A unit as words of memory: its kind, and a key's four words or a group's prefix in `a`.
 #[repr(C)]
-#[derive(Clone, Copy)]
+#[derive(Clone, Copy, PartialEq, Eq, Debug)]
 pub struct Words {
     pub kind: u64,
     pub a: u64,
@@ -49,32 +49,29 @@ pub struct Words {
 }
 
 // What a record keeps of its unit: the tag, which a search reads first, and the words.
-#[derive(Clone, Copy)]
+#[derive(Clone, Copy, PartialEq, Eq, Debug)]
 pub struct Name {
     pub tag: u16,
     pub words: Words,
 }
 
-impl Group {
-    // The group as one number, distinct for each group.
-    pub fn as_u64(self) -> u64
-        ensures { result ≡ sender.as_u64 self }
-    {
-        match self {
-            Group::V4(prefix) => 4294967296 + wide16(prefix),
-            Group::V6(prefix) => 8589934592 + wide32(prefix),
+// The group as one number, distinct for each group.
+impl From<Group> for u64 {
+    ghost from_gives = { λ group n. n ≡ sender.as_u64 group };
+
+    #[tactic(auto, unfolding(crate::specs::Sender::as_u64))]
+    fn from(group: Group) -> u64 {
+        match group {
+            Group::V4(prefix) => (1 << 32) + u64::from(prefix),
+            Group::V6(prefix) => (1 << 33) + u64::from(prefix),
         }
     }
 }
 
-fn wide16(n: u16) -> u64
-    ensures { result ≡ n }
-{
-    n as u64
-}
-
-fn wide32(n: u32) -> u64
-    ensures { result ≡ n }
-{
-    n as u64
+impl Group {
+    pub fn as_u64(self) -> u64
+        ensures { result ≡ sender.as_u64 self }
+    {
+        u64::from(self)
+    }
 }

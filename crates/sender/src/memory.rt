@@ -18,65 +18,64 @@ fn number(kind: u64, a: u64) -> Words
     }
 }
 
+impl From<Unit> for Words {
+    ghost from_gives = { λ unit words. words ≡ sender.words_of unit };
+
+    #[tactic(auto, unfolding(crate::specs::Sender::words_of))]
+    fn from(unit: Unit) -> Words {
+        match unit {
+            Unit::Corroborated(PublicKey { a, b, c, d }) => Words {
+                kind: 0,
+                a,
+                b,
+                c,
+                d,
+            },
+            Unit::Group(Group::V4(prefix)) => number(1, u64::from(prefix)),
+            Unit::Group(Group::V6(prefix)) => number(2, u64::from(prefix)),
+            Unit::NoAddress => number(3, 0),
+            Unit::Overflow => number(4, 0),
+        }
+    }
+}
+
+// Any other kind, and a number too large for its group, is overflow. The kinds are numbers, since any word may stand in lent memory.
+impl From<Words> for Unit {
+    ghost from_gives = { λ words unit. unit ≡ sender.unit_of words };
+
+    #[tactic(auto, unfolding(crate::specs::Sender::unit_of))]
+    fn from(words: Words) -> Unit {
+        let Words { kind, a, b, c, d } = words;
+        match kind {
+            0 => Unit::Corroborated(PublicKey { a, b, c, d }),
+            1 => u16::try_from(a).map_or(Unit::Overflow, |prefix| Unit::Group(Group::V4(prefix))),
+            2 => u32::try_from(a).map_or(Unit::Overflow, |prefix| Unit::Group(Group::V6(prefix))),
+            3 => Unit::NoAddress,
+            _ => Unit::Overflow,
+        }
+    }
+}
+
 pub fn words_of(unit: Unit) -> Words
     ensures { result ≡ sender.words_of unit }
 {
-    match unit {
-        Unit::Corroborated(k) => Words {
-            kind: 0,
-            a: k.a,
-            b: k.b,
-            c: k.c,
-            d: k.d,
-        },
-        Unit::Group(g) => match g {
-            Group::V4(n) => number(1, super::wide16(n)),
-            Group::V6(n) => number(2, super::wide32(n)),
-        },
-        Unit::NoAddress => number(3, 0),
-        Unit::Overflow => number(4, 0),
-    }
+    Words::from(unit)
 }
 
-// The unit of a record's words; any other kind, and a number too large for its group, is overflow.
 pub fn unit_of(w: Words) -> Unit
     ensures { result ≡ sender.unit_of w }
 {
-    let a = w.a;
-    let kind = w.kind;
-    if kind == 0 {
-        return Unit::Corroborated(PublicKey {
-            a,
-            b: w.b,
-            c: w.c,
-            d: w.d,
-        });
-    }
-    if kind == 1 {
-        if a < 65536 {
-            return Unit::Group(Group::V4(a as u16));
-        }
-        return Unit::Overflow;
-    }
-    if kind == 2 {
-        if a < 4294967296 {
-            return Unit::Group(Group::V6(a as u32));
-        }
-        return Unit::Overflow;
-    }
-    if kind == 3 {
-        return Unit::NoAddress;
-    }
-    Unit::Overflow
+    Unit::from(w)
 }
 
 // The name of a unit whose hash is known.
+#[tactic(auto, unfolding(crate::specs::Sender::name_by_hash))]
 pub fn name_by_hash(unit: Unit, hash: u64) -> Name
     ensures { result ≡ sender.name_by_hash unit hash }
 {
     Name {
         tag: tag_of_hash(hash),
-        words: words_of(unit),
+        words: Words::from(unit),
     }
 }
 
@@ -86,37 +85,15 @@ pub fn name_of(unit: Unit) -> Name
     name_by_hash(unit, hash_of(unit))
 }
 
+#[tactic(auto, unfolding(crate::specs::Sender::is_overflow))]
 pub fn is_overflow(unit: Unit) -> bool
     ensures { result ≡ sender.is_overflow unit }
 {
-    match unit {
-        Unit::Corroborated(_) => false,
-        Unit::Group(_) => false,
-        Unit::NoAddress => false,
-        Unit::Overflow => true,
-    }
-}
-
-pub fn same_words(x: Words, y: Words) -> bool
-    ensures { Tells result (x ≡ y) }
-{
-    if x.a != y.a {
-        return false;
-    }
-    if x.b != y.b {
-        return false;
-    }
-    if x.c != y.c {
-        return false;
-    }
-    if x.d != y.d {
-        return false;
-    }
-    x.kind == y.kind
+    matches!(unit, Unit::Overflow)
 }
 
 pub fn same_unit(x: Unit, y: Unit) -> bool
     ensures { Tells result (x ≡ y) }
 {
-    same_words(words_of(x), words_of(y))
+    x == y
 }

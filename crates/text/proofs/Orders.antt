@@ -1,42 +1,31 @@
--- Laws of `same` and `less`: a step at an index, and that `same` is equality. Assumes nothing.
+-- Laws of `same` and `less`: what `==` and `<` say, that `same` is equality, and that `less` is a strict and total order. Assumes nothing.
 use mathlib.Core.Path.{◌≡◌, refl, sym, ap, ◌∙◌}
-use mathlib.Core.Bool.{Bool, true, false, cond, ◌&&◌, false≢true}
+use mathlib.Core.Bool.{Bool, true, false, ◌&&◌, false≢true}
 use mathlib.Core.List.{List, [], ◌∷◌}
-use Prim.Native.Nat.{ℕ, suc, ◌+◌, ◌≤◌, ◌<◌}
-use native.Mathlib.Numerals.{add-one}
-use native.Mathlib.Decide.{dec_lt, ℕ_discrete}
+use Prim.Native.Nat.{ℕ, ◌<◌}
+use native.Mathlib.Decide.{ℕ_discrete}
 use native.Mathlib.Omega.{arith}
-use borrow.Author.Tests.{eq-eqb, ne_eqb, eqb-true, ltb-true, ltb-false, lt-ltb, le-ltb}
+use borrow.Author.Tests.{eq-eqb, ne_eqb, eqb-true, ltb-true, ltb-false, lt-ltb}
 use lib.Dec.{eqb, ltb}
-use lib.ListN.{length, get_or, drop, drop_of_length-le}
-use lib.Seq.{drop-cons}
+use Rattle.std.proofs.Common.{Some}
+use Rattle.std.proofs.lemmas.Cmp.{same_from_slice_cmp_tested}
+use Rattle.std.proofs.lemmas.Bool.Decides.{nat_tests}
+use Rattle.std.specs.Cmp.Lexicographic.{pointwise, slice_partial_cmp}
+use Rattle.std.specs.Ordering.{nat_cmp, is_lt, is_some_and}
 use Rattle.text.specs.Order.{same, less}
 
--- of two strings that go on at index i
-module _ (a b : List ℕ) (i : ℕ) (ha : i < length a) (hb : i < length b) where
-  pub same_at : same (drop i a) (drop i b) ≡ (eqb (get_or a i 0) (get_or b i 0) && same (drop (i + 1) a) (drop (i + 1) b))
-  unfolding same
-  same_at = rw (add-one, drop-cons a i 0, drop-cons b i 0)
-
-  pub less_at : less (drop i a) (drop i b) ≡ cond (eqb (get_or a i 0) (get_or b i 0)) (less (drop (i + 1) a) (drop (i + 1) b)) (ltb (get_or a i 0) (get_or b i 0))
-  unfolding less
-  less_at = rw (add-one, drop-cons a i 0, drop-cons b i 0)
-
-pub less_nil : (a : List ℕ) → less a [] ≡ false
-unfolding less
-less_nil a = refl
-
--- strings of other lengths are not the same
-pub same_length : (a b : List ℕ) → (length a ≡ length b → ⊥) → same a b ≡ false
+-- `==` of byte strings
+pub same_is : (a b : List ℕ) → pointwise eqb a b ≡ same a b
 unfolding same
-same_length [] [] n = absurd (n refl)
-same_length [] (y ∷ b) n = refl
-same_length (x ∷ a) [] n = refl
-same_length (x ∷ a) (y ∷ b) n = shorter (eqb x y) (same_length a b (λ e. n (ap suc e)))
-  where
-    shorter : (t : Bool) {s : Bool} → s ≡ false → t && s ≡ false
-    shorter true e = e
-    shorter false e = refl
+same_is [] [] = refl
+same_is [] (y ∷ b) = refl
+same_is (x ∷ a) [] = refl
+same_is (x ∷ a) (y ∷ b) = ap (λ (t : Bool). eqb x y && t) (same_is a b)
+
+-- `<` of byte strings
+pub less_is : (a b : List ℕ) (r : Bool) → r ≡ is_some_and is_lt (slice_partial_cmp (λ x y. Some (nat_cmp x y)) a b) → r ≡ less a b
+unfolding less
+less_is = same_from_slice_cmp_tested nat_cmp is_lt less refl (λ _ _. refl) (λ _ _. refl) (λ x y a b o h. grind (arith, nat_tests))
 
 pub same_refl : (a : List ℕ) → same a a ≡ true
 unfolding same
@@ -57,32 +46,6 @@ same_eq (x ∷ a) (y ∷ b) e =
     let h = same_eq a b w.1 in
     let k = eqb-true x y w.0 in
     cc
-
--- two strings, both at their end
-pub same_nil : (a b : List ℕ) (i : ℕ) → length a ≤ i → length b ≤ i → same (drop i a) (drop i b) ≡ true
-unfolding same
-same_nil a b i ha hb = rw (drop_of_length-le a {i = i} ha, drop_of_length-le b {i = i} hb)
-
--- the second at its end
-pub less_over : (a b : List ℕ) (i : ℕ) → length b ≤ i → less (drop i a) (drop i b) ≡ false
-less_over a b i hb =
-    rw (drop_of_length-le b {i = i} hb) (less_nil (drop i a))
-
-over : (b : List ℕ) (i : ℕ) → length b ≤ i → less [] (drop i b) ≡ false
-over b i hb = rw (drop_of_length-le b {i = i} hb) (less_nil [])
-
--- the first at its end
-goes_on : (b : List ℕ) (i : ℕ) → i < length b → less [] (drop i b) ≡ ltb i (length b)
-unfolding less
-goes_on b i h = rw (drop-cons b i 0) (sym (lt-ltb i (length b) h))
-
-pub less_end : (a b : List ℕ) (i : ℕ) → length a ≤ i → less (drop i a) (drop i b) ≡ ltb i (length b)
-less_end a b i ha =
-    rw (drop_of_length-le a {i = i} ha)
-    (elim (dec_lt i (length b)) [
-      | yes h ↦ goes_on b i h
-      | no h ↦ over b i (omega arith) ∙ sym (le-ltb i (length b) (omega arith))
-    ])
 
 -- the order is strict and total
 pub less_irrefl : (a : List ℕ) → less a a ≡ false

@@ -7,8 +7,8 @@ use Prim.Native.Nat.{ℕ, ◌+◌, ◌≤◌, ◌<◌}
 use native.Mathlib.Nat.{add-zero, zero-add, add_assoc}
 use native.Mathlib.Omega.{arith}
 use borrow.Author.Tests.{le-leb, lt-leb}
-use lib.ListN.{length, take, drop, set, length-append, length-take, length-drop}
-use lib.Seq.{paste, paste-zero, paste-suc, take-length, drop_at, take_at, drop-drop}
+use lib.ListN.{length, take, drop, length-append, length-take, length-drop}
+use lib.Seq.{paste, paste-zero, take-length, drop_at, take_at, drop-drop}
 use Rattle.io.specs.Counts.{IsPrefixLen}
 use Rattle.text.specs.Page.{Page, page, placed, write, writes, joined}
 
@@ -20,7 +20,7 @@ pub refused : (out : List ℕ) (at : ℕ) (text : List ℕ) → length out < at 
 unfolding write
 refused out at text h = simp (lt-leb _ _ h)
 
--- what a loop of stores leaves is the text placed
+-- what a copy of the whole text leaves is the text placed
 pub copied : (out : List ℕ) (at : ℕ) (text now : List ℕ) → at + length text ≤ length out → now ≡ paste out at text (length text)
     → page now (at + length text) ≡ write (page out at) text
 unfolding placed
@@ -28,14 +28,6 @@ copied out at text now h e =
     ap (λ (l : List ℕ). page l (at + length text))
     (e ∙ ap (λ (l : List ℕ). take at out ++ l ++ drop (at + length text) out) (take-length text))
     ∙ sym (fits (page out at) text h)
-
--- one store is a text of one byte placed
-pub stored : (out : List ℕ) (at byte : ℕ) → at < length out → page (set out at byte) (at + 1) ≡ write (page out at) (byte ∷ [])
-stored out at byte h =
-    copied out at (byte ∷ []) (set out at byte) (omega arith)
-    (ap (λ (l : List ℕ). set l at byte) (paste-zero out at (byte ∷ []))
-    ∙ ap (λ (k : ℕ). set (paste out at (byte ∷ []) 0) k byte) (sym (add-zero at))
-    ∙ paste-suc out at (byte ∷ []) 0 0 (omega arith) (omega arith))
 
 -- a placed text, and the text behind it
 module _ (out : List ℕ) (at : ℕ) (a b : List ℕ) (h : at + length a + length b ≤ length out) where

@@ -13,35 +13,26 @@ ghost use Rattle.text.specs.Number as number;
 pub use order::{less, same};
 
 // Puts the bytes of text into out from the place at on.
+#[tactic(auto, using(crate::proofs::Writing::refused))]
 pub fn put(out: &mut [u8], at: usize, text: &[u8]) -> usize
     ensures { page out.new result ≡ write (page out.old at) text.now }
 {
-    if out.len() < at {
+    let end = at.saturating_add(text.len());
+    if out.len() < end {
         return at;
     }
-    if out.len() - at < text.len() {
-        return at;
-    }
-    let mut i = 0;
-    while i < text.len() {
-        out[at + i] = text[i];
-        i += 1;
-    }
-    at + i
+    out[at..end].copy_from_slice(text);
+    end
 }
 
 pub fn put_byte(out: &mut [u8], at: usize, byte: u8) -> usize
     ensures { page out.new result ≡ write (page out.old at) (byte ∷ []) }
 {
-    if at < out.len() {
-        out[at] = byte;
-        at + 1
-    } else {
-        at
-    }
+    put(out, at, &[byte])
 }
 
 // n in decimal, with no zero in front.
+#[tactic(auto, using(crate::proofs::Numbers::fewest_decimal))]
 pub fn put_decimal(out: &mut [u8], at: usize, n: u64) -> usize
     ensures { page out.new result ≡ write (page out.old at) (number.decimal n) }
 {
@@ -50,7 +41,9 @@ pub fn put_decimal(out: &mut [u8], at: usize, n: u64) -> usize
     put(out, at, &digits[..k])
 }
 
-// n in lowercase hexadecimal, with no zero in front.
+// n in lowercase hexadecimal, with no zero in front. One function with put_word, over the count of digits, would have a clause
+// for each of the two definitions, and be no plainer.
+#[tactic(auto, using(crate::proofs::Numbers::fewest_hexadecimal))]
 pub fn put_hexadecimal(out: &mut [u8], at: usize, n: u64) -> usize
     ensures { page out.new result ≡ write (page out.old at) (number.hexadecimal n) }
 {
@@ -60,6 +53,7 @@ pub fn put_hexadecimal(out: &mut [u8], at: usize, n: u64) -> usize
 }
 
 // All sixteen hexadecimal digits of n.
+#[tactic(auto, using(crate::proofs::Numbers::fewest_word))]
 pub fn put_word(out: &mut [u8], at: usize, n: u64) -> usize
     ensures { page out.new result ≡ write (page out.old at) (number.word n) }
 {
@@ -69,6 +63,7 @@ pub fn put_word(out: &mut [u8], at: usize, n: u64) -> usize
 }
 
 // How many bytes put_decimal writes.
+#[tactic(auto, using(crate::proofs::Numbers::fewest_decimal))]
 pub fn decimal_length(n: u64) -> usize
     ensures { result ≡ length (number.decimal n) }
 {
