@@ -39,7 +39,7 @@ pub enum Unit {
 
 // A unit as words of memory: its kind, and a key's four words or a group's prefix in `a`.
 #[repr(C)]
-#[derive(Clone, Copy)]
+#[derive(Clone, Copy, PartialEq, Eq)]
 pub struct Words {
     pub kind: u64,
     pub a: u64,

@@ -1,0 +1,2 @@
+-- Tables: behind the last table there is no record.
+pub mod Tables
