@@ -1,23 +1,13 @@
 // Searches over the records: the record of a unit, and the next record of a table.
 #![tactic(auto)]
 
-ghost use Rattle.std.specs.Prelude.{◌≡◌, true, ◌<◌, ◌≤◌, ◌+◌, ◌==◌, false, length};
+ghost use Rattle.std.specs.Prelude.{◌≡◌, ℕ, true, ◌<◌, ◌≤◌, ◌+◌, ◌==◌, false, length};
 ghost use Rattle.sender.specs.Sender as sender;
 ghost use Rattle.store.specs.Store as store;
 ghost use Rattle.store_search.specs.Passing as passing;
 
-use sender::{Name, TABLES};
+use sender::{Name, TABLES, Words};
 use store::UnitRow;
-
-// Whether the record is the unit's: its tag first, so that a search reads 2 bytes a record.
-#[tactic(auto, unfolding(store::specs::Store::is_at))]
-fn is_at(tags: &[u16], units: &[UnitRow], i: usize, name: Name) -> bool
-    requires i_in_bounds { i < length tags.now }
-    requires i_in_bounds_2 { i < length units.now }
-    ensures { result ≡ store.is_at tags.now units.now name i }
-{
-    tags[i] == name.tag && store::same(store::words_at(units, i), name.words)
-}
 
 // How many records are tried at once: a tag is sought among many records, those of a table stand close to each other.
 const FAR: usize = 32;
@@ -97,20 +87,38 @@ pub fn next_tagged(tags: &[u16], from: usize, n: usize, tag: u16) -> usize
     next::<FAR, _>(tags, from, n, |x| x == tag)
 }
 
-// The first of n records that is the unit's, else n. Another unit may have the same tag: then the search goes on behind it.
+// The first of n records that has the tag and is sought, else n: a search reads 2 bytes of each record. Another unit may have the
+// same tag: then the search goes on behind it.
+pub fn find_tagged<F: Fn(usize) -> bool>(tags: &[u16], n: usize, tag: u16, is_sought: F) -> usize
+    requires n_in_bounds { n ≤ length tags.now }
+    requires callable { (i : ℕ) → i < n → F.pre is_sought i }
+    ensures upper_bound { result ≤ n }
+    ensures none { (k : ℕ) → k < result → store.has_tag tags.now tag k ≡ true → F.post is_sought k false }
+    ensures tag_found { result < n → store.has_tag tags.now tag result ≡ true }
+    ensures found { result < n → F.post is_sought result true }
+{
+    let mut i = next_tagged(tags, 0, n, tag);
+    while i < n && !is_sought(i) {
+        i = next_tagged(tags, i + 1, n, tag);
+    }
+    i
+}
+
+// Whether the record's words are these.
+fn has_words(units: &[UnitRow], i: usize, words: Words) -> bool
+    requires { i < length units.now }
+    ensures { result ≡ store.same (store.words_at units.now i) words }
+{
+    store::same(store::words_at(units, i), words)
+}
+
+// The first of n records that is the unit's, else n.
 pub fn find(tags: &[u16], units: &[UnitRow], n: usize, name: Name) -> usize
     requires n_in_bounds { n ≤ length tags.now }
     requires n_in_bounds_2 { n ≤ length units.now }
     ensures { result ≡ store.find tags.now units.now name n }
 {
-    let mut i = next_tagged(tags, 0, n, name.tag);
-    while i < n {
-        if is_at(tags, units, i, name) {
-            return i;
-        }
-        i = next_tagged(tags, i + 1, n, name.tag);
-    }
-    n
+    find_tagged(tags, n, name.tag, |i| has_words(units, i, name.words))
 }
 
 // Whether a tag is of the table, compared in 16 bits.
