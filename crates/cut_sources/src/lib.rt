@@ -10,8 +10,8 @@ mod totals;
 use sender::{Name, Words};
 use std::mem;
 use store::{CAUSES, SourceRow, same};
-use totals::{keep_from, total};
 pub use totals::total_at;
+use totals::{keep_from, total};
 
 // ---- a counted source: a tag, and a row of kind, four words, three counts
 
@@ -23,6 +23,7 @@ pub fn counted_words(counted: &[SourceRow], i: usize) -> Words
 }
 
 // A source's counts of receiver-ceiling, over-share and relay-rate.
+#[tactic(auto, unfolding(crate::specs::Counted::counts_at))]
 pub fn counts_at(counted: &[SourceRow], i: usize) -> [u64; CAUSES]
     requires { i < length counted.now }
     ensures { result ≡ counts.counts_at counted.now i }
@@ -50,6 +51,7 @@ fn counted_find(tags: &[u16], counted: &[SourceRow], n: usize, name: Name) -> us
 }
 
 // One more for a cause.
+#[tactic(auto, unfolding(crate::specs::Counted::counted_up))]
 fn counted_up(counted: &mut [SourceRow], i: usize, cause: usize)
     requires i_in_bounds { i < length counted.old }
     requires cause_bound { cause < store.«CAUSES» }
@@ -59,6 +61,7 @@ fn counted_up(counted: &mut [SourceRow], i: usize, cause: usize)
     *cuts = cuts.wrapping_add(1);
 }
 
+#[tactic(auto, unfolding(crate::specs::Counted::counted_add))]
 fn counted_add(counted: &mut [SourceRow], i: usize, w: Words)
     requires { i < length counted.old }
     ensures { counted.new ≡ counts.counted_add counted.old i w }
@@ -96,6 +99,7 @@ pub fn count(
 // ---- leaving out the least counted
 
 // The source at i: moved to j, the end of those kept, where its total is above k, else freed.
+#[tactic(auto, unfolding(crate::specs::Counted::prune_one, crate::specs::Counted::tag_moved, crate::specs::Counted::total_at))]
 fn prune_one(tags: &mut [u16], counted: &mut [SourceRow], i: usize, j: usize, k: u64) -> usize
     requires i_in_bounds { i < length tags.old }
     requires i_in_bounds_2 { i < length counted.old }

@@ -7,7 +7,7 @@ use store::SourceRow;
 
 // The sum of a source's three counts, which wraps.
 #[tactic(auto, unfolding(crate::specs::Counted::total))]
-fn total(row: &SourceRow) -> u64
+pub fn total(row: &SourceRow) -> u64
     ensures { result ≡ counts.total row.now }
 {
     row[5].wrapping_add(row[6]).wrapping_add(row[7])
