@@ -15,7 +15,7 @@ use Rattle.text.specs.Page.{joined}
 use Rattle.sender.specs.declared.PublicKey.{PublicKey}
 use Rattle.sender.specs.declared.Group.TheVariants.{V4, V6}
 use Rattle.sender.specs.declared.Unit.{Unit}
-use Rattle.sender.specs.declared.Unit.TheVariants.{Group as Grouped, NoAddress, Overflow}
+use Rattle.sender.specs.declared.Unit.TheVariants.{Corroborated, Group as Grouped, NoAddress, Overflow}
 use Rattle.sender.specs.Sender.{unit_of}
 use Rattle.label.specs.Label.{label, key_label, v4_label, v6_label}
 use Rattle.store.specs.Store.{words_at}
@@ -90,13 +90,12 @@ data Other : Unit → Type 0 where
   no_address : Other NoAddress
   overflow : Other Overflow
 
-other : (t u v w z : Bool) (n : ℕ) → Other (cond t (cond u (Grouped (V4 n)) Overflow) (cond v (cond w (Grouped (V6 n)) Overflow) (cond z NoAddress Overflow)))
-other true true v w z n = v4
-other true false v w z n = overflow
-other false u true true z n = v6
-other false u true false z n = overflow
-other false u false w true n = no_address
-other false u false w false n = overflow
+other : (u : Unit) → ((k : PublicKey) → u ≡ Corroborated k → ⊥) → Other u
+other (Corroborated k) f = absurd (f k refl)
+other (Grouped (V4 n)) f = v4
+other (Grouped (V6 n)) f = v6
+other NoAddress f = no_address
+other Overflow f = overflow
 
 key_before : (k : PublicKey) {u : Unit} → Other u → less (key_label k) (label u) ≡ true
 unfolding key_label joined less label v4_label v6_label
@@ -112,29 +111,18 @@ key_behind k v6 = refl
 key_behind k no_address = refl
 key_behind k overflow = refl
 
--- ---- rows
-unfoldable pub key_at : List (List ℕ) → ℕ → PublicKey
-key_at rows i = record { a = (words_at rows i).a; b = (words_at rows i).b; c = (words_at rows i).c; d = (words_at rows i).d }
+-- ---- units
+pub both_keys : (u v : Unit) (k l : PublicKey) → u ≡ Corroborated k → v ≡ Corroborated l → less (key_label k) (key_label l) ≡ less (label u) (label v)
+unfolding label
+both_keys u v k l e f = rw (e, f) refl
 
-key_label_at : (rows : List (List ℕ)) (i : ℕ) → (words_at rows i).kind ≡ 0 → label_at rows i ≡ key_label (key_at rows i)
-unfolding unit_at unit_of label key_at
-key_label_at rows i e = simp (eq-eqb (words_at rows i).kind 0 e)
+pub first_key : (u v : Unit) (k : PublicKey) → u ≡ Corroborated k → ((l : PublicKey) → v ≡ Corroborated l → ⊥) → true ≡ less (label u) (label v)
+unfolding label
+first_key u v k e f = rw e (sym (key_before k (other v f)))
 
-other_at : (rows : List (List ℕ)) (i : ℕ) → ((words_at rows i).kind ≡ 0 → ⊥) → Other (unit_at rows i)
-unfolding unit_at unit_of
-other_at rows i e =
-    rw (ne_eqb (words_at rows i).kind 0 e)
-    (other (eqb (words_at rows i).kind 1) (ltb (words_at rows i).a 65536) (eqb (words_at rows i).kind 2) (ltb (words_at rows i).a 4294967296) (eqb (words_at rows i).kind 3) (words_at rows i).a)
-
-module _ (rows : List (List ℕ)) (i j : ℕ) where
-  pub both_keys : (words_at rows i).kind ≡ 0 → (words_at rows j).kind ≡ 0 → less (key_label (key_at rows i)) (key_label (key_at rows j)) ≡ less (label_at rows i) (label_at rows j)
-  both_keys e f = sym (rw (key_label_at rows i e, key_label_at rows j f))
-
-  pub first_key : (words_at rows i).kind ≡ 0 → ((words_at rows j).kind ≡ 0 → ⊥) → true ≡ less (label_at rows i) (label_at rows j)
-  first_key e f = sym (ap (λ (l : List ℕ). less l (label_at rows j)) (key_label_at rows i e) ∙ key_before (key_at rows i) (other_at rows j f))
-
-  pub second_key : ((words_at rows i).kind ≡ 0 → ⊥) → (words_at rows j).kind ≡ 0 → false ≡ less (label_at rows i) (label_at rows j)
-  second_key e f = sym (ap (less (label_at rows i)) (key_label_at rows j f) ∙ key_behind (key_at rows j) (other_at rows i e))
+pub second_key : (u v : Unit) (l : PublicKey) → ((k : PublicKey) → u ≡ Corroborated k → ⊥) → v ≡ Corroborated l → false ≡ less (label u) (label v)
+unfolding label
+second_key u v l e f = rw f (sym (key_behind l (other u e)))
 
 pub apart : (x y : ℕ) → (x ≡ y → ⊥) → (x < y → ⊥) → y < x
 apart x y e f = elim (dec_lt y x) [ yes p ↦ p | no p ↦ absurd (elim (dec_lt x y) [ yes q ↦ f q | no q ↦ e (omega arith) ]) ]

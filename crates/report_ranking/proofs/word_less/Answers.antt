@@ -10,8 +10,8 @@ use Rattle.report_ranking.proofs.word_less.Goals as goal
 pub returns-then-x-y : goal.returns-then-x-y
 returns-then-x-y c = λ xs ys e. e ∙ word_same _ _ xs ys c.if-x-y.true
 
-pub returns : goal.returns
-returns c = λ xs ys e.
+pub returns-else-x-y : goal.returns-else-x-y
+returns-else-x-y c = λ xs ys e.
     let x = c.args.x in
     let y = c.args.y in
     elim (dec_lt x y) [
