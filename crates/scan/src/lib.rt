@@ -2,7 +2,7 @@
 #![tactic(auto)]
 
 ghost use Rattle.flow.specs.Flow.{dims};
-ghost use Rattle.std.specs.Prelude.{◌≡◌, ◌+◌, ◌<◌, ◌≤◌, true, nat_le, length};
+ghost use Rattle.std.specs.Prelude.{◌≡◌, ℕ, ◌+◌, ◌<◌, ◌≤◌, true, false, nat_le, length};
 ghost use Rattle.sender.specs.Sender as sender;
 ghost use Rattle.head.specs.Questions as asked;
 ghost use Rattle.store.specs.Store as store;
@@ -67,6 +67,42 @@ fn walk_one(
     add_all(counts, sums, used.rates(at_ms));
 }
 
+// The table's records from `from` on are walked up to the first at which the walk stops: where it stands, else n. Those before
+// `from` were walked.
+fn walk<F: Fn(usize) -> bool>(
+    tags: &[u16],
+    units: &[UnitRow],
+    uses: &[UseRow],
+    counts: &mut Counts,
+    sums: &mut Sums,
+    from: usize,
+    n: usize,
+    table: usize,
+    at_ms: u64,
+    stops: F,
+) -> usize
+    requires from_le_n { from ≤ n }
+    requires n_in_bounds { n ≤ length tags.now }
+    requires n_in_bounds_2 { n ≤ length units.now }
+    requires n_in_bounds_3 { n ≤ length uses.now }
+    requires callable { (i : ℕ) → i < n → F.pre stops i }
+    ensures upper_bound { result ≤ n }
+    ensures passed { (k : ℕ) → from ≤ k → k < result → store.in_table tags.now table k ≡ true → F.post stops k false }
+    ensures stopped { result < n → F.post stops result true }
+    ensures sums_after { (g : wants.Hist)
+        → wants.hist counts.old sums.old
+        ≡ walking.walk (store.rows tags.now units.now uses.now) table at_ms from g
+        → wants.hist counts.new sums.new
+        ≡ walking.walk (store.rows tags.now units.now uses.now) table at_ms result g }
+{
+    let mut i = store_search::next_in(tags, from, n, table);
+    while i < n && !stops(i) {
+        walk_one(tags, units, uses, counts, sums, i, table, at_ms);
+        i = store_search::next_in(tags, i + 1, n, table);
+    }
+    i
+}
+
 // The table's records are walked up to the first that is stale: where it stands, else n. A visit that drops none reads the
 // tags once.
 fn walk_to_stale(
@@ -87,19 +123,14 @@ fn walk_to_stale(
     ensures sums_after { (wants.hist counts.new sums.new)
         ≡ walking.walk (store.rows tags.now units.now uses.now) table at_ms result (wants.hist counts.old sums.old) }
 {
-    let mut i = store_search::next_in(tags, 0, n, table);
-    while i < n {
-        if store_retain::is_stale(tags, units, i, table, at_ms) {
-            return i;
-        }
-        walk_one(tags, units, uses, counts, sums, i, table, at_ms);
-        i = store_search::next_in(tags, i + 1, n, table);
-    }
-    i
+    let is_stale = |i| store_retain::is_stale(tags, units, i, table, at_ms);
+    walk(
+        tags, units, uses, counts, sums, 0, n, table, at_ms, is_stale,
+    )
 }
 
-// The table's records from `from` on, where those before it were walked.
-fn walk(
+// The table's records from `from` on are walked, where those before it were.
+fn walk_rest(
     tags: &[u16],
     units: &[UnitRow],
     uses: &[UseRow],
@@ -120,11 +151,18 @@ fn walk(
         → wants.hist counts.new sums.new
         ≡ walking.walk (store.rows tags.now units.now uses.now) table at_ms n g }
 {
-    let mut i = store_search::next_in(tags, from, n, table);
-    while i < n {
-        walk_one(tags, units, uses, counts, sums, i, table, at_ms);
-        i = store_search::next_in(tags, i + 1, n, table);
-    }
+    walk(
+        tags,
+        units,
+        uses,
+        counts,
+        sums,
+        from,
+        n,
+        table,
+        at_ms,
+        |_| false,
+    );
 }
 
 // One table more is visited, and so many records are left.
@@ -166,7 +204,7 @@ fn swept(
     walk_overflow(counts, sums, overflow, table, at_ms);
     let i = walk_to_stale(tags, units, uses, counts, sums, tracked, table, at_ms);
     let n = store_retain::retain(tags, units, uses, i, tracked, table, at_ms);
-    walk(tags, units, uses, counts, sums, i, n, table, at_ms);
+    walk_rest(tags, units, uses, counts, sums, i, n, table, at_ms);
     n
 }
 
