@@ -4,7 +4,13 @@ use mathlib.Core.Bool.{Bool, true, false, cond, not, false≢true}
 use mathlib.Core.List.{List, [], ◌∷◌, ◌++◌, append_assoc}
 use Prim.Native.Nat.{ℕ, zero, suc, ◌+◌, ◌/◌, ◌%◌, ◌^◌, ◌<◌}
 use native.Mathlib.Nat.{pow-suc, pow-zero, div-lt_iff_lt-mul, div-add-mod', mod-lt}
-use native.Mathlib.Decide.{dec_lt}
+use native.Mathlib.Decide.{ℕ_discrete, dec_lt}
+use Rattle.std.specs.Cmp.Lexicographic.{slice_partial_cmp}
+use Rattle.std.specs.Ordering.{is_some_and, is_lt, partial_ordering_then, nat_cmp}
+use Rattle.std.specs.declared.cmp.Ordering.{Ordering}
+use Rattle.std.specs.declared.cmp.Ordering.TheVariants.{Less, Equal, Greater}
+use Rattle.std.specs.declared.option.Option.{Option}
+use Rattle.std.specs.declared.option.Option.TheVariants.{Some}
 use native.Mathlib.Omega.{arith}
 use borrow.Author.Tests.{lt-ltb, le-ltb, eq-eqb, ne_eqb}
 use lib.Dec.{eqb, ltb}
@@ -73,15 +79,30 @@ module _ (a b : ℕ) (x y : List ℕ) where
 pub word_behind : (a b : ℕ) (x y : List ℕ) → b < a → a < 18446744073709551616 → less (word a ++ x) (word b ++ y) ≡ false
 word_behind a b x y h r = less_not (less (word a ++ x) (word b ++ y)) (word a ++ x) (word b ++ y) refl (word_before b a y x h r)
 
+apart : (x y : ℕ) → (x ≡ y → ⊥) → (x < y → ⊥) → y < x
+apart x y e f = elim (dec_lt y x) [ yes p ↦ p | no p ↦ absurd (elim (dec_lt x y) [ yes q ↦ f q | no q ↦ e (omega arith) ]) ]
+
 -- ---- keys
-pub keys_less : (k l : PublicKey) (r1 r2 r3 r : Bool)
-    → ((x y : List ℕ) → false ≡ less x y → r3 ≡ less (word k.d ++ x) (word l.d ++ y))
-    → ((x y : List ℕ) → r3 ≡ less x y → r2 ≡ less (word k.c ++ x) (word l.c ++ y))
-    → ((x y : List ℕ) → r2 ≡ less x y → r1 ≡ less (word k.b ++ x) (word l.b ++ y))
-    → ((x y : List ℕ) → r1 ≡ less x y → r ≡ less (word k.a ++ x) (word l.a ++ y))
-    → r ≡ less (key_label k) (key_label l)
+-- one word more in front
+word_then : (x y : ℕ) (o : Option Ordering) (xs ys : List ℕ) → x < 18446744073709551616 → y < 18446744073709551616
+    → is_some_and is_lt o ≡ less xs ys → is_some_and is_lt (partial_ordering_then (Some (nat_cmp x y)) o) ≡ less (word x ++ xs) (word y ++ ys)
+word_then x y o xs ys f g e = elim (dec_lt x y) [
+  | yes p ↦ ap (λ (b : Bool). is_some_and is_lt (partial_ordering_then (Some (cond b Less (cond (eqb x y) Equal Greater))) o)) (lt-ltb x y p) ∙ sym (word_before x y xs ys p g)
+  | no p ↦ ap (λ (b : Bool). is_some_and is_lt (partial_ordering_then (Some (cond b Less (cond (eqb x y) Equal Greater))) o)) (le-ltb x y (omega arith))
+      ∙ elim (ℕ_discrete x y) [
+        | yes q ↦ ap (λ (b : Bool). is_some_and is_lt (partial_ordering_then (Some (cond b Equal Greater)) o)) (eq-eqb x y q) ∙ e ∙ word_same x y xs ys q
+        | no q ↦ ap (λ (b : Bool). is_some_and is_lt (partial_ordering_then (Some (cond b Equal Greater)) o)) (ne_eqb x y q) ∙ sym (word_behind x y xs ys (apart x y q p) f)
+      ]
+]
+
+abbrev words : PublicKey → List ℕ
+words k = k.a ∷ k.b ∷ k.c ∷ k.d ∷ []
+
+pub keys_less : (k l : PublicKey) → k.a < 18446744073709551616 → k.b < 18446744073709551616 → k.c < 18446744073709551616 → k.d < 18446744073709551616
+    → l.a < 18446744073709551616 → l.b < 18446744073709551616 → l.c < 18446744073709551616 → l.d < 18446744073709551616
+    → is_some_and is_lt (slice_partial_cmp (λ (x y : ℕ). Some (nat_cmp x y)) (words k) (words l)) ≡ less (key_label k) (key_label l)
 unfolding key_label joined less
-keys_less k l r1 r2 r3 r e3 e2 e1 e0 = e0 _ _ (e1 _ _ (e2 _ _ (e3 [] [] refl)))
+keys_less k l a b c d e f g h = word_then k.a l.a _ _ _ a e (word_then k.b l.b _ _ _ b f (word_then k.c l.c _ _ _ c g (word_then k.d l.d (Some Equal) [] [] d h refl)))
 
 -- a label that is not a key's
 data Other : Unit → Type 0 where
@@ -123,9 +144,6 @@ first_key u v k e f = rw e (sym (key_before k (other v f)))
 pub second_key : (u v : Unit) (l : PublicKey) → ((k : PublicKey) → u ≡ Corroborated k → ⊥) → v ≡ Corroborated l → false ≡ less (label u) (label v)
 unfolding label
 second_key u v l e f = rw f (sym (key_behind l (other u e)))
-
-pub apart : (x y : ℕ) → (x ≡ y → ⊥) → (x < y → ⊥) → y < x
-apart x y e f = elim (dec_lt y x) [ yes p ↦ p | no p ↦ absurd (elim (dec_lt x y) [ yes q ↦ f q | no q ↦ e (omega arith) ]) ]
 
 -- ---- tests
 pub not_cond : (t : Bool) → not t ≡ cond t false true

@@ -1,8 +1,7 @@
 // Which sources a report names, and in which order.
 #![tactic(auto)]
 
-ghost use Rattle.std.specs.Prelude.{◌≡◌, ℕ, ◌<◌, ◌≤◌, List, ◌++◌, length};
-ghost use Rattle.text.specs.Number.{word};
+ghost use Rattle.std.specs.Prelude.{◌≡◌, ◌<◌, ◌≤◌, length};
 ghost use Rattle.text.specs.Order.{less};
 ghost use Rattle.label.specs.Label.{key_label};
 ghost use Rattle.report_ranking.specs.Sources as sources;
@@ -25,22 +24,11 @@ pub fn unit_at(counted: &[SourceRow], i: usize) -> Unit
     sender::unit_of(cut_sources::counted_words(counted, i))
 }
 
-// Whether 16 hexadecimal digits of x, and a text behind them, stand before those of y and another text; rest tells
-// whether the one text behind stands before the other.
-fn word_less(x: u64, y: u64, rest: bool) -> bool
-    ensures { (xs ys : List ℕ) → rest ≡ less xs ys → result ≡ less (word x ++ xs) (word y ++ ys) }
-{
-    if x == y { rest } else { x < y }
-}
-
 // Whether the label of key x stands before that of y, by their words: no label is written.
 fn key_less(x: PublicKey, y: PublicKey) -> bool
     ensures { result ≡ less (key_label x) (key_label y) }
 {
-    let d = word_less(x.d, y.d, false);
-    let c = word_less(x.c, y.c, d);
-    let b = word_less(x.b, y.b, c);
-    word_less(x.a, y.a, b)
+    [x.a, x.b, x.c, x.d] < [y.a, y.b, y.c, y.d]
 }
 
 // Whether the label of source i stands before that of source j. That of a key stands before all others.
