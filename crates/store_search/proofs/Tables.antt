@@ -1,5 +1,5 @@
 -- Behind the last table there is no record. Assumes nothing.
-use Rattle.std.proofs.Common.{◌≡◌, ℕ, ◌/◌, ◌<◌, ◌≤◌, false, List, get_or, ne_eqb, arith}
+use Rattle.std.proofs.Common.{◌≡◌, ℕ, ◌<◌, ◌≤◌, false, List, get_or, ne_eqb, arith}
 use Rattle.sender.specs.Sender.{table_of_tag}
 use Rattle.store.specs.Store.{in_table, table_at}
 

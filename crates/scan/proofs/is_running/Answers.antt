@@ -1,5 +1,5 @@
 use Rattle.head.proofs.Bounds.{le_by}
-use Rattle.std.proofs.Common.{◌+◌, leb, refl, sym, ap, arith, le-ltb, lt-ltb, le-leb}
+use Rattle.std.proofs.Common.{◌+◌, leb, sym, ap, arith, le-ltb, lt-ltb, le-leb}
 use Rattle.head.specs.declared.Shedder.{Shedder}
 use Rattle.scan.specs.Scanning.{opened, begun, started}
 use borrow.Author.Tests.{lt-leb}

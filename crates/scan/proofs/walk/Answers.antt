@@ -1,5 +1,5 @@
 use Rattle.scan.proofs.Turns.{walk-next, walk_past, passed_on}
-use Rattle.std.proofs.Common.{◌≡◌, ℕ, ◌<◌, true, false, sym, ap, ◌∙◌, true≢false, rules}
+use Rattle.std.proofs.Common.{ℕ, false, sym, ap, ◌∙◌, true≢false, rules}
 use Rattle.store.specs.Store.{in_table}
 use Rattle.scan.specs.Walking.{walk_one}
 use Rattle.scan.proofs.walk.Goals as goal
