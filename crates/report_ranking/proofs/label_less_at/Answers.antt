@@ -1,6 +1,5 @@
 -- `report_ranking::label_less_at` meets its contract: keys by their words, other labels as texts. Assumes nothing.
 use mathlib.Core.Path.{sym, ◌∙◌}
-use Rattle.report_ranking.specs.Sources.{unit_at}
 use Rattle.report_ranking.proofs.Keys.{both_keys, first_key, second_key}
 use Rattle.report_ranking.proofs.label_less_at.Goals as goal
 
