@@ -1,5 +1,5 @@
 -- The part of a list from a place on, lent to a call and put back, and then lent once more. Assumes nothing.
-use Rattle.std.proofs.Common.{◌≡◌, ℕ, ◌+◌, ◌-◌, ◌≤◌, List, [], ◌++◌, length, take, drop, sym, ap, ◌∙◌, append-nil, arith, length-append, length-drop, length-take-le, take_all, take_at, drop_at}
+use Rattle.std.proofs.Common.{◌≡◌, ℕ, ◌-◌, ◌≤◌, List, ◌++◌, length, take, drop, ap, ◌∙◌, append-nil, arith, length-append, length-drop, length-take-le, take_all, take_at, drop_at}
 use lib.Seq.{drop-length}
 use borrow.Rule.Slice.PartMut.{mid_of, put_mid, Post-is}
 

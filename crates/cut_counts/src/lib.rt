@@ -1,7 +1,9 @@
 // The counts of cuts: by cause in the head, by source in lent rows. Behind the tags of the unit records stand those of the sources.
 #![tactic(auto)]
 
-ghost use Rattle.std.specs.Prelude.{◌≡◌, ◌+◌, ◌<◌, length};
+ghost use Rattle.std.specs.Prelude.{◌≡◌, ◌+◌, ◌<◌, false, length};
+ghost use Rattle.std.specs.Option.{IfSome, SomeIff};
+ghost use Rattle.verdict.specs.Verdict.{is_admitted};
 ghost use Rattle.store.specs.Store as store;
 ghost use Rattle.cut_counts.specs.Counting as counting;
 
@@ -11,40 +13,29 @@ use sender::Name;
 use store::{CAUSES, SourceRow};
 use verdict::Verdict;
 
-// A cause's place among the counts.
-fn cause_of(verdict: Verdict) -> usize
-    ensures value { result ≡ counting.cause_of verdict }
-    ensures upper_bound { result < store.«CAUSES» }
+// The place among the counts of the cause of a cut.
+#[tactic(auto, unfolding(crate::specs::Counting::cause_of, verdict::specs::Verdict::is_admitted))]
+fn cause_of(verdict: Verdict) -> Option<usize>
+    ensures value { SomeIff result (is_admitted verdict ≡ false) (counting.cause_of verdict) }
+    ensures upper_bound { IfSome result (λ cause. cause < store.«CAUSES») }
 {
     match verdict {
-        Verdict::Admitted => 0,
-        Verdict::OverShare => 1,
-        Verdict::RelayRate => 2,
+        Verdict::Admitted => None,
+        Verdict::OverShare => Some(1),
+        Verdict::RelayRate => Some(2),
     }
 }
 
-fn upped(mut xs: [u64; CAUSES], k: usize, by: u64) -> [u64; CAUSES]
-    requires { k < store.«CAUSES» }
-    ensures { result ≡ counting.upped xs k by }
-{
-    xs[k] = std::num::wrapping_add_u64(xs[k], by);
-    xs
-}
-
 // One batch and its receptions more for a cause; so many sources are counted.
-fn added(h: Shedder, n: usize, cause: usize, receptions: u64) -> Shedder
+#[tactic(auto, unfolding(crate::specs::Counting::added, crate::specs::Counting::upped))]
+fn added(mut h: Shedder, n: usize, cause: usize, receptions: u64) -> Shedder
     requires { cause < store.«CAUSES» }
     ensures { result ≡ counting.added h n cause receptions }
 {
-    let b = h.batches;
-    let c = h.receptions;
-    let batches = upped(b, cause, 1);
-    let received = upped(c, cause, receptions);
-    let mut r = h;
-    r.batches = batches;
-    r.receptions = received;
-    r.counted = n;
-    r
+    h.batches[cause] = h.batches[cause].wrapping_add(1);
+    h.receptions[cause] = h.receptions[cause].wrapping_add(receptions);
+    h.counted = n;
+    h
 }
 
 // One cut more is counted under the unit named; where the spare row was taken, the least counted go: how many sources there are
@@ -66,7 +57,9 @@ fn sourced(
     cut_sources::pruned(&mut tags[room..], counted, n)
 }
 
-// A cut is counted: in the head under its cause, among the sources under the unit named.
+// A cut is counted: in the head under its cause, among the sources under the unit named. It is inlined, so that an admission copies
+// no head for a call that it does not make.
+#[inline(always)]
 pub fn tallied(
     h: Shedder,
     tags: &mut [u16],
@@ -86,8 +79,7 @@ pub fn tallied(
     added(h, n, cause, receptions)
 }
 
-// A verdict that cuts is counted. As in `tallied`, which is written out here: called from two crates it would not be inlined,
-// and an admission would copy the head for a call that it does not make.
+// A verdict that cuts is counted.
 pub fn count_verdict(
     h: Shedder,
     tags: &mut [u16],
@@ -102,10 +94,8 @@ pub fn count_verdict(
     ensures tracked_value { result.tracked ≡ h.tracked }
     ensures scan_value { result.scan ≡ h.scan }
 {
-    if verdict::is_admitted(verdict) {
+    let Some(cause) = cause_of(verdict) else {
         return h;
-    }
-    let cause = cause_of(verdict);
-    let n = sourced(tags, counted, h.unit_room, h.counted, name, cause);
-    added(h, n, cause, cost[0])
+    };
+    tallied(h, tags, counted, name, cause, cost[0])
 }

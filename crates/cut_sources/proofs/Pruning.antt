@@ -1,11 +1,12 @@
 -- The totals and the sources that are kept, source by source; and that pruning frees a row. Assumes nothing.
-use Rattle.std.proofs.Common.{◌≡◌, ℕ, zero, suc, ◌+◌, ◌-◌, ◌<◌, ◌≤◌, max, Bool, true, false, cond, ltb, List, [], ◌∷◌, ◌++◌, map, length, get_or, take, drop, set, replicate, sym, refl, ap, ◌∙◌, append_assoc, add-one, arith, length-append, length-take-le, drop-cons, take-suc, le-ltb, lt-ltb}
+use Rattle.std.proofs.Common.{◌≡◌, ℕ, zero, suc, ◌+◌, ◌-◌, ◌<◌, ◌≤◌, max, Bool, true, false, cond, ltb, List, [], ◌∷◌, ◌++◌, map, fold, count_by, length, get_or, take, drop, set, replicate, sym, refl, ap, ◌∙◌, append_assoc, add-one, arith, length-append, length-take-le, drop-cons, take-suc, le-ltb, lt-ltb}
+use Rattle.std.proofs.lemmas.List.Recursion.{is_count_by}
 use native.Mathlib.Decide.{dec_lt}
 use lib.ListN.{length-replicate, length-map}
 use lib.Seq.{get_or_at, set_at, set-append_seam}
 use Rattle.cut_sources.specs.Sorted.{one_if, below, highest}
 use Rattle.cut_sources.specs.Counted.{total, total_at, totals, keep_from, above, free, left, Sources, sources, prune, prune_one}
-use Rattle.cut_sources.proofs.Sorted.{swap, keep_from_there}
+use Rattle.cut_sources.proofs.Sorted.{keep_from_there}
 
 -- ---- totals
 map_end : (l : List (List ℕ)) (r : List ℕ) → map total (l ++ (r ∷ [])) ≡ map total l ++ (total r ∷ [])
@@ -20,29 +21,21 @@ pub length_totals : (rows : List (List ℕ)) (n : ℕ) → n ≤ length rows →
 unfolding totals
 length_totals rows n h = length-map (take n rows) total ∙ length-take-le n rows h
 
-below_end : (x : ℕ) (l : List ℕ) (y : ℕ) → below x (l ++ (y ∷ [])) ≡ one_if (below x l) (ltb y x)
+one : (b : Bool) (n : ℕ) → one_if n b ≡ cond b (1 + n) n
+one true n = omega arith
+one false n = refl
+
+pub below_count : (x : ℕ) (l : List (List ℕ)) → count_by (λ (r : List ℕ). ltb (total r) x) l ≡ below x (map total l)
 unfolding below
-below_end x [] y = refl
-below_end x (z ∷ zs) y = ap (λ (n : ℕ). one_if n (ltb z x)) (below_end x zs y) ∙ swap (below x zs) (ltb y x) (ltb z x)
+below_count x l = sym (is_count_by (λ (l : List (List ℕ)). below x (map total l)) (λ (r : List ℕ). ltb (total r) x) refl (λ r rs. one (ltb (total r) x) (below x (map total rs))) l)
 
-pub below_none : (rows : List (List ℕ)) (x : ℕ) → below x (totals rows 0) ≡ 0
-unfolding below totals
-below_none rows x = refl
-
-pub below_next : (rows : List (List ℕ)) (x n : ℕ) → n < length rows → below x (totals rows (n + 1)) ≡ one_if (below x (totals rows n)) (ltb (total_at rows n) x)
-below_next rows x n h = ap (below x) (totals_next rows n h) ∙ below_end x (totals rows n) (total_at rows n)
-
-highest_end : (l : List ℕ) (y : ℕ) → highest (l ++ (y ∷ [])) ≡ max (highest l) y
+highest_from : (a : ℕ) (l : List (List ℕ)) → fold (λ (m : ℕ) (r : List ℕ). max m (total r)) a l ≡ max a (highest (map total l))
 unfolding highest
-highest_end [] y = refl
-highest_end (z ∷ zs) y = ap (λ (n : ℕ). max n z) (highest_end zs y) ∙ omega arith
+highest_from a [] = omega arith
+highest_from a (r ∷ rs) = highest_from (max a (total r)) rs ∙ omega arith
 
-pub highest_none : (rows : List (List ℕ)) → highest (totals rows 0) ≡ 0
-unfolding highest totals
-highest_none rows = refl
-
-pub highest_next : (rows : List (List ℕ)) (n : ℕ) → n < length rows → highest (totals rows (n + 1)) ≡ max (highest (totals rows n)) (total_at rows n)
-highest_next rows n h = ap highest (totals_next rows n h) ∙ highest_end (totals rows n) (total_at rows n)
+pub highest_fold : (l : List (List ℕ)) → fold (λ (m : ℕ) (r : List ℕ). max m (total r)) 0 l ≡ highest (map total l)
+highest_fold l = highest_from 0 l ∙ omega arith
 
 -- ---- those kept, and those not above k, are all
 count_step : (k t m n o : ℕ) (x : List ℕ) (xs : List (List ℕ)) → length xs ≡ m → m + n ≡ o

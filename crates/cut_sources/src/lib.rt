@@ -8,9 +8,10 @@ ghost use Rattle.cut_sources.specs.Counted as counts;
 mod totals;
 
 use sender::{Name, Words};
+use std::mem;
 use store::{CAUSES, SourceRow, same};
-use totals::keep_from;
 pub use totals::total_at;
+use totals::{keep_from, total};
 
 // ---- a counted source: a tag, and a row of kind, four words, three counts
 
@@ -18,22 +19,16 @@ pub fn counted_words(counted: &[SourceRow], i: usize) -> Words
     requires { i < length counted.now }
     ensures { result ≡ store.words_at counted.now i }
 {
-    let row = counted[i];
-    Words {
-        kind: row[0],
-        a: row[1],
-        b: row[2],
-        c: row[3],
-        d: row[4],
-    }
+    store::words_at(counted, i)
 }
 
 // A source's counts of receiver-ceiling, over-share and relay-rate.
+#[tactic(auto, unfolding(crate::specs::Counted::counts_at))]
 pub fn counts_at(counted: &[SourceRow], i: usize) -> [u64; CAUSES]
     requires { i < length counted.now }
     ensures { result ≡ counts.counts_at counted.now i }
 {
-    let row = counted[i];
+    let row = &counted[i];
     [row[5], row[6], row[7]]
 }
 
@@ -46,40 +41,33 @@ fn reads_as(counted: &[SourceRow], i: usize, w: Words) -> bool
     same(sender::words_of(unit), w)
 }
 
-// The first of n sources that is the unit's, else n. Its tag is sought, so that a search reads 2 bytes a source.
+// The first of n sources that is the unit's, else n.
 fn counted_find(tags: &[u16], counted: &[SourceRow], n: usize, name: Name) -> usize
     requires n_in_bounds { n ≤ length tags.now }
     requires n_in_bounds_2 { n ≤ length counted.now }
     ensures { result ≡ counts.counted_find tags.now counted.now name n }
 {
-    let w = name.words;
-    let mut i = store_search::next_tagged(tags, 0, n, name.tag);
-    while i < n {
-        if reads_as(counted, i, w) {
-            return i;
-        }
-        i = store_search::next_tagged(tags, i + 1, n, name.tag);
-    }
-    n
+    store_search::find_tagged(tags, n, name.tag, |i| reads_as(counted, i, name.words))
 }
 
 // One more for a cause.
+#[tactic(auto, unfolding(crate::specs::Counted::counted_up))]
 fn counted_up(counted: &mut [SourceRow], i: usize, cause: usize)
     requires i_in_bounds { i < length counted.old }
     requires cause_bound { cause < store.«CAUSES» }
     ensures { counted.new ≡ counts.counted_up counted.old i cause }
 {
-    let mut row = counted[i];
-    let k = 5 + cause;
-    row[k] = std::num::wrapping_add_u64(row[k], 1);
-    counted[i] = row;
+    let cuts = &mut counted[i][5 + cause];
+    *cuts = cuts.wrapping_add(1);
 }
 
+#[tactic(auto, unfolding(crate::specs::Counted::counted_add))]
 fn counted_add(counted: &mut [SourceRow], i: usize, w: Words)
     requires { i < length counted.old }
     ensures { counted.new ≡ counts.counted_add counted.old i w }
 {
-    counted[i] = [w.kind, w.a, w.b, w.c, w.d, 0, 0, 0];
+    let Words { kind, a, b, c, d } = w;
+    counted[i] = [kind, a, b, c, d, 0, 0, 0];
 }
 
 // Of n sources, the unit's count for a cause is one more; how many sources there are then.
@@ -102,9 +90,8 @@ pub fn count(
         counted_up(counted, i, cause);
         return n;
     }
-    let w = name.words;
     tags[n] = name.tag;
-    counted_add(counted, n, w);
+    counted_add(counted, n, name.words);
     counted_up(counted, n, cause);
     n + 1
 }
@@ -112,6 +99,7 @@ pub fn count(
 // ---- leaving out the least counted
 
 // The source at i: moved to j, the end of those kept, where its total is above k, else freed.
+#[tactic(auto, unfolding(crate::specs::Counted::prune_one, crate::specs::Counted::tag_moved, crate::specs::Counted::total_at))]
 fn prune_one(tags: &mut [u16], counted: &mut [SourceRow], i: usize, j: usize, k: u64) -> usize
     requires i_in_bounds { i < length tags.old }
     requires i_in_bounds_2 { i < length counted.old }
@@ -120,18 +108,14 @@ fn prune_one(tags: &mut [u16], counted: &mut [SourceRow], i: usize, j: usize, k:
     ensures tags_after { tags.new ≡ counts.tag_moved tags.old (counts.total_at counted.old i) k i j }
     ensures upper_bound { result ≤ i + 1 }
 {
-    let tag = tags[i];
-    let row = counted[i];
-    if k < total_at(counted, i) {
-        tags[i] = 0;
-        tags[j] = tag;
-        counted[i] = [0u64; 8];
-        counted[j] = row;
-        return j + 1;
+    let tag = mem::replace(&mut tags[i], 0);
+    let row = mem::replace(&mut counted[i], [0; 8]);
+    if total(&row) <= k {
+        return j;
     }
-    tags[i] = 0;
-    counted[i] = [0u64; 8];
-    j
+    tags[j] = tag;
+    counted[j] = row;
+    j + 1
 }
 
 // Of n sources those above k stay, in their order; freed places become 0.
@@ -142,11 +126,9 @@ fn prune(tags: &mut [u16], counted: &mut [SourceRow], n: usize, k: u64) -> usize
     ensures tags_after { tags.new ≡ counts.prune_tags tags.old counted.old k n }
     ensures upper_bound { result ≤ n }
 {
-    let mut i = 0;
     let mut j = 0;
-    while i < n {
+    for i in 0..n {
         j = prune_one(tags, counted, i, j, k);
-        i += 1;
     }
     j
 }

@@ -1,25 +1,24 @@
 // A counted source's total, and the total up to which sources are left out.
-ghost use Rattle.std.specs.Prelude.{◌≡◌, ◌+◌, ◌^◌, ◌<◌, ◌≤◌, max, length};
+ghost use Rattle.std.specs.Prelude.{◌≡◌, ◌<◌, ◌≤◌, length};
 ghost use Rattle.cut_sources.specs.Sorted as sorted;
 ghost use Rattle.cut_sources.specs.Counted as counts;
 
 use store::SourceRow;
 
 // The sum of a source's three counts, which wraps.
+#[tactic(auto, unfolding(crate::specs::Counted::total))]
+pub fn total(row: &SourceRow) -> u64
+    ensures { result ≡ counts.total row.now }
+{
+    row[5].wrapping_add(row[6]).wrapping_add(row[7])
+}
+
+#[tactic(auto, unfolding(crate::specs::Counted::total_at))]
 pub fn total_at(counted: &[SourceRow], i: usize) -> u64
     requires { i < length counted.now }
     ensures { result ≡ counts.total_at counted.now i }
 {
-    let row = counted[i];
-    std::num::wrapping_add_u64(std::num::wrapping_add_u64(row[5], row[6]), row[7])
-}
-
-fn one_if(n: usize, yes: bool) -> usize
-    requires { n + 1 < 2 ^ 64 }
-    ensures value { result ≡ sorted.one_if n yes }
-    ensures upper_bound { result ≤ n + 1 }
-{
-    if yes { n + 1 } else { n }
+    total(&counted[i])
 }
 
 // How many of n totals are below x.
@@ -27,19 +26,7 @@ fn below(counted: &[SourceRow], n: usize, x: u64) -> usize
     requires { n ≤ length counted.now }
     ensures { result ≡ sorted.below x (counts.totals counted.now n) }
 {
-    let mut k = 0;
-    let mut i = 0;
-    while i < n {
-        k = one_if(k, total_at(counted, i) < x);
-        i += 1;
-    }
-    k
-}
-
-fn larger(a: u64, b: u64) -> u64
-    ensures { result ≡ max a b }
-{
-    if a < b { b } else { a }
+    counted[..n].iter().filter(|row| total(row) < x).count()
 }
 
 // The highest of n totals.
@@ -47,13 +34,7 @@ fn highest(counted: &[SourceRow], n: usize) -> u64
     requires { n ≤ length counted.now }
     ensures { result ≡ sorted.highest (counts.totals counted.now n) }
 {
-    let mut k = 0;
-    let mut i = 0;
-    while i < n {
-        k = larger(k, total_at(counted, i));
-        i += 1;
-    }
-    k
+    counted[..n].iter().map(total).max().unwrap_or(0)
 }
 
 // Of n totals, ascending, the one at index n / 4: the largest x with no more than n / 4 totals below it. It is searched

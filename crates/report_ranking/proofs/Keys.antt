@@ -2,12 +2,18 @@
 use mathlib.Core.Path.{◌≡◌, refl, sym, ap, ◌∙◌}
 use mathlib.Core.Bool.{Bool, true, false, cond, not, false≢true}
 use mathlib.Core.List.{List, [], ◌∷◌, ◌++◌, append_assoc}
-use Prim.Native.Nat.{ℕ, zero, suc, ◌+◌, ◌/◌, ◌%◌, ◌^◌, ◌<◌}
+use Prim.Native.Nat.{ℕ, zero, suc, ◌/◌, ◌%◌, ◌^◌, ◌<◌}
 use native.Mathlib.Nat.{pow-suc, pow-zero, div-lt_iff_lt-mul, div-add-mod', mod-lt}
-use native.Mathlib.Decide.{dec_lt}
+use native.Mathlib.Decide.{ℕ_discrete, dec_lt}
+use Rattle.std.specs.Cmp.Lexicographic.{slice_partial_cmp}
+use Rattle.std.specs.Ordering.{is_some_and, is_lt, partial_ordering_then, nat_cmp}
+use Rattle.std.specs.declared.cmp.Ordering.{Ordering}
+use Rattle.std.specs.declared.cmp.Ordering.TheVariants.{Less, Equal, Greater}
+use Rattle.std.specs.declared.option.Option.{Option}
+use Rattle.std.specs.declared.option.Option.TheVariants.{Some}
 use native.Mathlib.Omega.{arith}
 use borrow.Author.Tests.{lt-ltb, le-ltb, eq-eqb, ne_eqb}
-use lib.Dec.{eqb, ltb}
+use lib.Dec.{eqb}
 use Rattle.io.specs.Digits.{hex_digit_ascii, last_digits}
 use Rattle.text.specs.Order.{less}
 use Rattle.text.specs.Number.{word}
@@ -15,11 +21,8 @@ use Rattle.text.specs.Page.{joined}
 use Rattle.sender.specs.declared.PublicKey.{PublicKey}
 use Rattle.sender.specs.declared.Group.TheVariants.{V4, V6}
 use Rattle.sender.specs.declared.Unit.{Unit}
-use Rattle.sender.specs.declared.Unit.TheVariants.{Group as Grouped, NoAddress, Overflow}
-use Rattle.sender.specs.Sender.{unit_of}
+use Rattle.sender.specs.declared.Unit.TheVariants.{Corroborated, Group as Grouped, NoAddress, Overflow}
 use Rattle.label.specs.Label.{label, key_label, v4_label, v6_label}
-use Rattle.store.specs.Store.{words_at}
-use Rattle.report_ranking.specs.Sources.{unit_at, label_at}
 use Rattle.report_ranking.proofs.Ordering.{less_irreflexive, less_transitive, less_first}
 
 less_prefix : (p x y : List ℕ) → less (p ++ x) (p ++ y) ≡ less x y
@@ -73,15 +76,30 @@ module _ (a b : ℕ) (x y : List ℕ) where
 pub word_behind : (a b : ℕ) (x y : List ℕ) → b < a → a < 18446744073709551616 → less (word a ++ x) (word b ++ y) ≡ false
 word_behind a b x y h r = less_not (less (word a ++ x) (word b ++ y)) (word a ++ x) (word b ++ y) refl (word_before b a y x h r)
 
+apart : (x y : ℕ) → (x ≡ y → ⊥) → (x < y → ⊥) → y < x
+apart x y e f = elim (dec_lt y x) [ yes p ↦ p | no p ↦ absurd (elim (dec_lt x y) [ yes q ↦ f q | no q ↦ e (omega arith) ]) ]
+
 -- ---- keys
-pub keys_less : (k l : PublicKey) (r1 r2 r3 r : Bool)
-    → ((x y : List ℕ) → false ≡ less x y → r3 ≡ less (word k.d ++ x) (word l.d ++ y))
-    → ((x y : List ℕ) → r3 ≡ less x y → r2 ≡ less (word k.c ++ x) (word l.c ++ y))
-    → ((x y : List ℕ) → r2 ≡ less x y → r1 ≡ less (word k.b ++ x) (word l.b ++ y))
-    → ((x y : List ℕ) → r1 ≡ less x y → r ≡ less (word k.a ++ x) (word l.a ++ y))
-    → r ≡ less (key_label k) (key_label l)
+-- one word more in front
+word_then : (x y : ℕ) (o : Option Ordering) (xs ys : List ℕ) → x < 18446744073709551616 → y < 18446744073709551616
+    → is_some_and is_lt o ≡ less xs ys → is_some_and is_lt (partial_ordering_then (Some (nat_cmp x y)) o) ≡ less (word x ++ xs) (word y ++ ys)
+word_then x y o xs ys f g e = elim (dec_lt x y) [
+  | yes p ↦ ap (λ (b : Bool). is_some_and is_lt (partial_ordering_then (Some (cond b Less (cond (eqb x y) Equal Greater))) o)) (lt-ltb x y p) ∙ sym (word_before x y xs ys p g)
+  | no p ↦ ap (λ (b : Bool). is_some_and is_lt (partial_ordering_then (Some (cond b Less (cond (eqb x y) Equal Greater))) o)) (le-ltb x y (omega arith))
+      ∙ elim (ℕ_discrete x y) [
+        | yes q ↦ ap (λ (b : Bool). is_some_and is_lt (partial_ordering_then (Some (cond b Equal Greater)) o)) (eq-eqb x y q) ∙ e ∙ word_same x y xs ys q
+        | no q ↦ ap (λ (b : Bool). is_some_and is_lt (partial_ordering_then (Some (cond b Equal Greater)) o)) (ne_eqb x y q) ∙ sym (word_behind x y xs ys (apart x y q p) f)
+      ]
+]
+
+abbrev words : PublicKey → List ℕ
+words k = k.a ∷ k.b ∷ k.c ∷ k.d ∷ []
+
+pub keys_less : (k l : PublicKey) → k.a < 18446744073709551616 → k.b < 18446744073709551616 → k.c < 18446744073709551616 → k.d < 18446744073709551616
+    → l.a < 18446744073709551616 → l.b < 18446744073709551616 → l.c < 18446744073709551616 → l.d < 18446744073709551616
+    → is_some_and is_lt (slice_partial_cmp (λ (x y : ℕ). Some (nat_cmp x y)) (words k) (words l)) ≡ less (key_label k) (key_label l)
 unfolding key_label joined less
-keys_less k l r1 r2 r3 r e3 e2 e1 e0 = e0 _ _ (e1 _ _ (e2 _ _ (e3 [] [] refl)))
+keys_less k l a b c d e f g h = word_then k.a l.a _ _ _ a e (word_then k.b l.b _ _ _ b f (word_then k.c l.c _ _ _ c g (word_then k.d l.d (Some Equal) [] [] d h refl)))
 
 -- a label that is not a key's
 data Other : Unit → Type 0 where
@@ -90,13 +108,12 @@ data Other : Unit → Type 0 where
   no_address : Other NoAddress
   overflow : Other Overflow
 
-other : (t u v w z : Bool) (n : ℕ) → Other (cond t (cond u (Grouped (V4 n)) Overflow) (cond v (cond w (Grouped (V6 n)) Overflow) (cond z NoAddress Overflow)))
-other true true v w z n = v4
-other true false v w z n = overflow
-other false u true true z n = v6
-other false u true false z n = overflow
-other false u false w true n = no_address
-other false u false w false n = overflow
+other : (u : Unit) → ((k : PublicKey) → u ≡ Corroborated k → ⊥) → Other u
+other (Corroborated k) f = absurd (f k refl)
+other (Grouped (V4 n)) f = v4
+other (Grouped (V6 n)) f = v6
+other NoAddress f = no_address
+other Overflow f = overflow
 
 key_before : (k : PublicKey) {u : Unit} → Other u → less (key_label k) (label u) ≡ true
 unfolding key_label joined less label v4_label v6_label
@@ -112,32 +129,18 @@ key_behind k v6 = refl
 key_behind k no_address = refl
 key_behind k overflow = refl
 
--- ---- rows
-unfoldable pub key_at : List (List ℕ) → ℕ → PublicKey
-key_at rows i = record { a = (words_at rows i).a; b = (words_at rows i).b; c = (words_at rows i).c; d = (words_at rows i).d }
+-- ---- units
+pub both_keys : (u v : Unit) (k l : PublicKey) → u ≡ Corroborated k → v ≡ Corroborated l → less (key_label k) (key_label l) ≡ less (label u) (label v)
+unfolding label
+both_keys u v k l e f = rw (e, f) refl
 
-key_label_at : (rows : List (List ℕ)) (i : ℕ) → (words_at rows i).kind ≡ 0 → label_at rows i ≡ key_label (key_at rows i)
-unfolding unit_at unit_of label key_at
-key_label_at rows i e = simp (eq-eqb (words_at rows i).kind 0 e)
+pub first_key : (u v : Unit) (k : PublicKey) → u ≡ Corroborated k → ((l : PublicKey) → v ≡ Corroborated l → ⊥) → true ≡ less (label u) (label v)
+unfolding label
+first_key u v k e f = rw e (sym (key_before k (other v f)))
 
-other_at : (rows : List (List ℕ)) (i : ℕ) → ((words_at rows i).kind ≡ 0 → ⊥) → Other (unit_at rows i)
-unfolding unit_at unit_of
-other_at rows i e =
-    rw (ne_eqb (words_at rows i).kind 0 e)
-    (other (eqb (words_at rows i).kind 1) (ltb (words_at rows i).a 65536) (eqb (words_at rows i).kind 2) (ltb (words_at rows i).a 4294967296) (eqb (words_at rows i).kind 3) (words_at rows i).a)
-
-module _ (rows : List (List ℕ)) (i j : ℕ) where
-  pub both_keys : (words_at rows i).kind ≡ 0 → (words_at rows j).kind ≡ 0 → less (key_label (key_at rows i)) (key_label (key_at rows j)) ≡ less (label_at rows i) (label_at rows j)
-  both_keys e f = sym (rw (key_label_at rows i e, key_label_at rows j f))
-
-  pub first_key : (words_at rows i).kind ≡ 0 → ((words_at rows j).kind ≡ 0 → ⊥) → true ≡ less (label_at rows i) (label_at rows j)
-  first_key e f = sym (ap (λ (l : List ℕ). less l (label_at rows j)) (key_label_at rows i e) ∙ key_before (key_at rows i) (other_at rows j f))
-
-  pub second_key : ((words_at rows i).kind ≡ 0 → ⊥) → (words_at rows j).kind ≡ 0 → false ≡ less (label_at rows i) (label_at rows j)
-  second_key e f = sym (ap (less (label_at rows i)) (key_label_at rows j f) ∙ key_behind (key_at rows j) (other_at rows i e))
-
-pub apart : (x y : ℕ) → (x ≡ y → ⊥) → (x < y → ⊥) → y < x
-apart x y e f = elim (dec_lt y x) [ yes p ↦ p | no p ↦ absurd (elim (dec_lt x y) [ yes q ↦ f q | no q ↦ e (omega arith) ]) ]
+pub second_key : (u v : Unit) (l : PublicKey) → ((k : PublicKey) → u ≡ Corroborated k → ⊥) → v ≡ Corroborated l → false ≡ less (label u) (label v)
+unfolding label
+second_key u v l e f = rw f (sym (key_behind l (other u e)))
 
 -- ---- tests
 pub not_cond : (t : Bool) → not t ≡ cond t false true

@@ -1,8 +1,7 @@
 // Which sources a report names, and in which order.
 #![tactic(auto)]
 
-ghost use Rattle.std.specs.Prelude.{◌≡◌, ℕ, ◌<◌, ◌≤◌, List, ◌++◌, length};
-ghost use Rattle.text.specs.Number.{word};
+ghost use Rattle.std.specs.Prelude.{◌≡◌, ◌<◌, ◌≤◌, length};
 ghost use Rattle.text.specs.Order.{less};
 ghost use Rattle.label.specs.Label.{key_label};
 ghost use Rattle.report_ranking.specs.Sources as sources;
@@ -10,12 +9,14 @@ ghost use Rattle.report_ranking.specs.Sources as sources;
 use cut_sources::total_at;
 use label::label_less;
 use sender::{PublicKey, Unit};
+use std::cmp::Ordering;
 use store::SourceRow;
 
 // The sources that a report names at most.
 pub const SOURCES_REPORTED: usize = 16;
 
 // The unit of a counted source.
+#[tactic(auto, unfolding(crate::specs::Sources::unit_at))]
 pub fn unit_at(counted: &[SourceRow], i: usize) -> Unit
     requires { i < length counted.now }
     ensures { result ≡ sources.unit_at counted.now i }
@@ -23,104 +24,69 @@ pub fn unit_at(counted: &[SourceRow], i: usize) -> Unit
     sender::unit_of(cut_sources::counted_words(counted, i))
 }
 
-// Whether 16 hexadecimal digits of x, and a text behind them, stand before those of y and another text; rest tells
-// whether the one text behind stands before the other.
-fn word_less(x: u64, y: u64, rest: bool) -> bool
-    ensures { (xs ys : List ℕ) → rest ≡ less xs ys → result ≡ less (word x ++ xs) (word y ++ ys) }
-{
-    if x == y {
-        return rest;
-    }
-    x < y
-}
-
 // Whether the label of key x stands before that of y, by their words: no label is written.
 fn key_less(x: PublicKey, y: PublicKey) -> bool
     ensures { result ≡ less (key_label x) (key_label y) }
 {
-    let d = word_less(x.d, y.d, false);
-    let c = word_less(x.c, y.c, d);
-    let b = word_less(x.b, y.b, c);
-    word_less(x.a, y.a, b)
+    [x.a, x.b, x.c, x.d] < [y.a, y.b, y.c, y.d]
 }
 
 // Whether the label of source i stands before that of source j. That of a key stands before all others.
+#[tactic(auto, unfolding(crate::specs::Sources::unit_at))]
 fn label_less_at(counted: &[SourceRow], i: usize, j: usize) -> bool
     requires i_in_bounds { i < length counted.now }
     requires j_in_bounds { j < length counted.now }
     ensures { result ≡ less (sources.label_at counted.now i) (sources.label_at counted.now j) }
 {
-    let x = counted[i];
-    let y = counted[j];
-    if x[0] == 0 {
-        if y[0] == 0 {
-            let k = PublicKey {
-                a: x[1],
-                b: x[2],
-                c: x[3],
-                d: x[4],
-            };
-            let l = PublicKey {
-                a: y[1],
-                b: y[2],
-                c: y[3],
-                d: y[4],
-            };
-            return key_less(k, l);
-        }
-        return true;
+    let y = unit_at(counted, j);
+    match unit_at(counted, i) {
+        Unit::Corroborated(x) => match y {
+            Unit::Corroborated(y) => key_less(x, y),
+            _ => true,
+        },
+        x => match y {
+            Unit::Corroborated(_) => false,
+            y => label_less(x, y),
+        },
     }
-    if y[0] == 0 {
-        return false;
-    }
-    label_less(unit_at(counted, i), unit_at(counted, j))
 }
 
 // Of two sources with the same total: the label by bytes, then the order of the store.
+#[tactic(auto, unfolding(crate::specs::Sources::label_precedes))]
 fn label_precedes(counted: &[SourceRow], i: usize, j: usize) -> bool
     requires i_in_bounds { i < length counted.now }
     requires j_in_bounds { j < length counted.now }
     ensures { result ≡ sources.label_precedes counted.now i j }
 {
-    if label_less_at(counted, i, j) {
-        return true;
-    }
-    if i < j {
-        return !label_less_at(counted, j, i);
-    }
-    false
+    label_less_at(counted, i, j) || i < j && !label_less_at(counted, j, i)
 }
 
 // Whether source i stands before source j: the larger total first.
+#[tactic(auto, unfolding(crate::specs::Sources::precedes))]
 fn precedes(counted: &[SourceRow], i: usize, j: usize) -> bool
     requires i_in_bounds { i < length counted.now }
     requires j_in_bounds { j < length counted.now }
     ensures { result ≡ sources.precedes counted.now i j }
 {
-    let a = total_at(counted, i);
-    let b = total_at(counted, j);
-    if b < a {
-        return true;
+    match total_at(counted, i).cmp(&total_at(counted, j)) {
+        Ordering::Greater => true,
+        Ordering::Less => false,
+        Ordering::Equal => label_precedes(counted, i, j),
     }
-    if a < b {
-        return false;
-    }
-    label_precedes(counted, i, j)
 }
 
 // Whether source i stands after p; each stands after n, which is none.
+#[tactic(auto, unfolding(crate::specs::Sources::is_after))]
 fn is_after(counted: &[SourceRow], n: usize, p: usize, i: usize) -> bool
     requires n_in_bounds { n ≤ length counted.now }
     requires p_le_n { p ≤ n }
     requires i_lt_n { i < n }
     ensures { result ≡ sources.is_after counted.now n p i }
 {
-    if p == n {
-        return true;
-    }
-    precedes(counted, p, i)
+    p == n || precedes(counted, p, i)
 }
 
+#[tactic(auto, unfolding(crate::specs::Sources::earlier))]
 fn earlier(counted: &[SourceRow], n: usize, best: usize, i: usize) -> usize
     requires n_in_bounds { n ≤ length counted.now }
     requires best_le_n { best ≤ n }
@@ -128,17 +94,16 @@ fn earlier(counted: &[SourceRow], n: usize, best: usize, i: usize) -> usize
     ensures value { result ≡ sources.earlier counted.now n best i }
     ensures upper_bound { result ≤ n }
 {
-    if best == n {
-        return i;
+    if best == n || precedes(counted, i, best) {
+        i
+    } else {
+        best
     }
-    if precedes(counted, i, best) {
-        return i;
-    }
-    best
 }
 
 // The earlier of source i, where it stands after p, and the best so far. Few precede the best, and only those are
 // compared with p.
+#[tactic(auto, unfolding(crate::specs::Sources::better))]
 fn better(counted: &[SourceRow], n: usize, p: usize, best: usize, i: usize) -> usize
     requires n_in_bounds { n ≤ length counted.now }
     requires p_le_n { p ≤ n }
@@ -148,13 +113,11 @@ fn better(counted: &[SourceRow], n: usize, p: usize, best: usize, i: usize) -> u
     ensures upper_bound { result ≤ n }
 {
     let e = earlier(counted, n, best, i);
-    if e == best {
-        return best;
+    if e != best && is_after(counted, n, p, i) {
+        e
+    } else {
+        best
     }
-    if is_after(counted, n, p, i) {
-        return e;
-    }
-    best
 }
 
 // Of n sources the first of those that stand after p, n where there is none.
@@ -165,10 +128,8 @@ pub fn first_after(counted: &[SourceRow], n: usize, p: usize) -> usize
     ensures upper_bound { result ≤ n }
 {
     let mut best = n;
-    let mut i = 0;
-    while i < n {
+    for i in 0..n {
         best = better(counted, n, p, best, i);
-        i += 1;
     }
     best
 }

@@ -6,7 +6,7 @@ use Rattle.head.specs.declared.Shedder.{Shedder}
 use Rattle.scan_trim.specs.Trimming.{trimmed}
 use Rattle.scan_trim.specs.Laws.{Rates, Trims, Levels}
 use Rattle.scan_trim.proofs.Laws.{trim_law, level_law}
-use Rattle.scan.specs.Scanning.{Scanning, Started, scanning, visited, visit, again, ended, ended_at, opened, started, begun, scanned, scanned_from}
+use Rattle.scan.specs.Scanning.{Scanning, Started, scanning, visited, visit, again, ended_at, opened, started, begun, scanned, scanned_from}
 use Rattle.scan.specs.Laws.{Stays, Scans}
 use Rattle.scan.proofs.Judgements.{ended_by, visits_two, rests}
 

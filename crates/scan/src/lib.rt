@@ -2,7 +2,7 @@
 #![tactic(auto)]
 
 ghost use Rattle.flow.specs.Flow.{dims};
-ghost use Rattle.std.specs.Prelude.{◌≡◌, ◌+◌, ◌<◌, ◌≤◌, true, length};
+ghost use Rattle.std.specs.Prelude.{◌≡◌, ℕ, ◌+◌, ◌<◌, ◌≤◌, true, false, nat_le, length};
 ghost use Rattle.sender.specs.Sender as sender;
 ghost use Rattle.head.specs.Questions as asked;
 ghost use Rattle.store.specs.Store as store;
@@ -25,10 +25,8 @@ const SCAN_MS: u64 = ACTIVE_MS / 4;
 fn add_all(counts: &mut Counts, sums: &mut Sums, want: [f64; DIMS])
     ensures { (wants.hist counts.new sums.new) ≡ walking.adds want dims (wants.hist counts.old sums.old) }
 {
-    let mut d = 0;
-    while d < DIMS {
+    for d in 0..DIMS {
         wants::add(counts, sums, d, want[d]);
-        d += 1;
     }
 }
 
@@ -39,13 +37,11 @@ fn walk_use(counts: &mut Counts, sums: &mut Sums, used: Use, at_ms: u64)
 }
 
 // Overflow's record is walked at table 0, once it has been judged.
+#[tactic(auto, unfolding(crate::specs::Walking::walk_overflow))]
 fn walk_overflow(counts: &mut Counts, sums: &mut Sums, overflow: Use, table: usize, at_ms: u64)
     ensures { (wants.hist counts.new sums.new) ≡ walking.walk_overflow overflow table at_ms (wants.hist counts.old sums.old) }
 {
-    if table == 0 {
-        if flow::is_fresh(overflow.fresh) {
-            return;
-        }
+    if table == 0 && !flow::is_fresh(overflow.fresh) {
         walk_use(counts, sums, overflow, at_ms);
     }
 }
@@ -71,6 +67,42 @@ fn walk_one(
     add_all(counts, sums, used.rates(at_ms));
 }
 
+// The table's records from `from` on are walked up to the first at which the walk stops: where it stands, else n. Those before
+// `from` were walked.
+fn walk<F: Fn(usize) -> bool>(
+    tags: &[u16],
+    units: &[UnitRow],
+    uses: &[UseRow],
+    counts: &mut Counts,
+    sums: &mut Sums,
+    from: usize,
+    n: usize,
+    table: usize,
+    at_ms: u64,
+    stops: F,
+) -> usize
+    requires from_le_n { from ≤ n }
+    requires n_in_bounds { n ≤ length tags.now }
+    requires n_in_bounds_2 { n ≤ length units.now }
+    requires n_in_bounds_3 { n ≤ length uses.now }
+    requires callable { (i : ℕ) → i < n → F.pre stops i }
+    ensures upper_bound { result ≤ n }
+    ensures passed { (k : ℕ) → from ≤ k → k < result → store.in_table tags.now table k ≡ true → F.post stops k false }
+    ensures stopped { result < n → F.post stops result true }
+    ensures sums_after { (g : wants.Hist)
+        → wants.hist counts.old sums.old
+        ≡ walking.walk (store.rows tags.now units.now uses.now) table at_ms from g
+        → wants.hist counts.new sums.new
+        ≡ walking.walk (store.rows tags.now units.now uses.now) table at_ms result g }
+{
+    let mut i = store_search::next_in(tags, from, n, table);
+    while i < n && !stops(i) {
+        walk_one(tags, units, uses, counts, sums, i, table, at_ms);
+        i = store_search::next_in(tags, i + 1, n, table);
+    }
+    i
+}
+
 // The table's records are walked up to the first that is stale: where it stands, else n. A visit that drops none reads the
 // tags once.
 fn walk_to_stale(
@@ -91,19 +123,14 @@ fn walk_to_stale(
     ensures sums_after { (wants.hist counts.new sums.new)
         ≡ walking.walk (store.rows tags.now units.now uses.now) table at_ms result (wants.hist counts.old sums.old) }
 {
-    let mut i = store_search::next_in(tags, 0, n, table);
-    while i < n {
-        if store_retain::is_stale(tags, units, i, table, at_ms) {
-            return i;
-        }
-        walk_one(tags, units, uses, counts, sums, i, table, at_ms);
-        i = store_search::next_in(tags, i + 1, n, table);
-    }
-    i
+    let is_stale = |i| store_retain::is_stale(tags, units, i, table, at_ms);
+    walk(
+        tags, units, uses, counts, sums, 0, n, table, at_ms, is_stale,
+    )
 }
 
-// The table's records from `from` on, where those before it were walked.
-fn walk(
+// The table's records from `from` on are walked, where those before it were.
+fn walk_rest(
     tags: &[u16],
     units: &[UnitRow],
     uses: &[UseRow],
@@ -124,31 +151,35 @@ fn walk(
         → wants.hist counts.new sums.new
         ≡ walking.walk (store.rows tags.now units.now uses.now) table at_ms n g }
 {
-    let mut i = store_search::next_in(tags, from, n, table);
-    while i < n {
-        walk_one(tags, units, uses, counts, sums, i, table, at_ms);
-        i = store_search::next_in(tags, i + 1, n, table);
-    }
+    walk(
+        tags,
+        units,
+        uses,
+        counts,
+        sums,
+        from,
+        n,
+        table,
+        at_ms,
+        |_| false,
+    );
 }
 
 // One table more is visited, and so many records are left.
-fn visited(h: Shedder, n: usize) -> Shedder
-    requires le_remaining { 1 ≤ h.scan.remaining }
-    requires next_bound { h.scan.remaining + h.scan.next ≤ sender.«TABLES» }
-    ensures { result ≡ scanning.visited h n }
+#[tactic(auto, unfolding(crate::specs::Scanning::visited))]
+fn visited(h: &mut Shedder, n: usize)
+    requires le_remaining { 1 ≤ h.old.scan.remaining }
+    requires next_bound { h.old.scan.remaining + h.old.scan.next ≤ sender.«TABLES» }
+    ensures { h.new ≡ scanning.visited h.old n }
 {
-    let mut s = h.scan;
-    s.next = s.next + 1;
-    s.remaining = s.remaining - 1;
-    let mut r = h;
-    r.scan = s;
-    r.tracked = n;
-    r.visits = std::num::wrapping_add_u64(h.visits, 1);
-    r
+    h.scan.next += 1;
+    h.scan.remaining -= 1;
+    h.tracked = n;
+    h.visits = h.visits.wrapping_add(1);
 }
 
 // A table's stale records are dropped, and the wants of the others are added, overflow's first at table 0: how many records
-// are left. The head stays outside, since it would be copied.
+// are left.
 fn swept(
     tags: &mut [u16],
     units: &mut [UnitRow],
@@ -173,121 +204,108 @@ fn swept(
     walk_overflow(counts, sums, overflow, table, at_ms);
     let i = walk_to_stale(tags, units, uses, counts, sums, tracked, table, at_ms);
     let n = store_retain::retain(tags, units, uses, i, tracked, table, at_ms);
-    walk(tags, units, uses, counts, sums, i, n, table, at_ms);
+    walk_rest(tags, units, uses, counts, sums, i, n, table, at_ms);
     n
 }
 
+// The next table is visited.
 fn visit(
-    h: Shedder,
+    h: &mut Shedder,
     tags: &mut [u16],
     units: &mut [UnitRow],
     uses: &mut [UseRow],
     counts: &mut Counts,
     sums: &mut Sums,
-) -> Shedder
-    requires tracked_in_bounds { h.tracked ≤ length tags.old }
-    requires tracked_in_bounds_2 { h.tracked ≤ length units.old }
-    requires tracked_in_bounds_3 { h.tracked ≤ length uses.old }
-    requires le_remaining { 1 ≤ h.scan.remaining }
-    requires next_bound { h.scan.remaining + h.scan.next ≤ sender.«TABLES» }
-    ensures sums_after { scanning.scanning result (store.rows tags.new units.new uses.new) (wants.hist counts.new sums.new)
-        ≡ scanning.visit (scanning.scanning h (store.rows tags.old units.old uses.old) (wants.hist counts.old sums.old)) }
-    ensures tracked_le_tracked { result.tracked ≤ h.tracked }
-    ensures next_bound_2 { result.scan.remaining + result.scan.next ≤ sender.«TABLES» }
+)
+    requires tracked_in_bounds { h.old.tracked ≤ length tags.old }
+    requires tracked_in_bounds_2 { h.old.tracked ≤ length units.old }
+    requires tracked_in_bounds_3 { h.old.tracked ≤ length uses.old }
+    requires le_remaining { 1 ≤ h.old.scan.remaining }
+    requires next_bound { h.old.scan.remaining + h.old.scan.next ≤ sender.«TABLES» }
+    ensures sums_after { scanning.scanning h.new (store.rows tags.new units.new uses.new) (wants.hist counts.new sums.new)
+        ≡ scanning.visit (scanning.scanning h.old (store.rows tags.old units.old uses.old) (wants.hist counts.old sums.old)) }
+    ensures tracked_le_tracked { h.new.tracked ≤ h.old.tracked }
+    ensures next_bound_2 { h.new.scan.remaining + h.new.scan.next ≤ sender.«TABLES» }
 {
-    let s = h.scan;
-    let overflow = h.overflow;
     let n = swept(
-        tags, units, uses, counts, sums, overflow, h.tracked, s.next, s.at_ms,
+        tags,
+        units,
+        uses,
+        counts,
+        sums,
+        h.overflow,
+        h.tracked,
+        h.scan.next,
+        h.scan.at_ms,
     );
-    visited(h, n)
+    visited(h, n);
 }
 
-// A second visit, where a table remains. It is written out: `visit`, called twice, would not be inlined and would copy the head.
+// A second visit, where a table remains.
 fn again(
-    h: Shedder,
+    h: &mut Shedder,
     tags: &mut [u16],
     units: &mut [UnitRow],
     uses: &mut [UseRow],
     counts: &mut Counts,
     sums: &mut Sums,
-) -> Shedder
-    requires tracked_in_bounds { h.tracked ≤ length tags.old }
-    requires tracked_in_bounds_2 { h.tracked ≤ length units.old }
-    requires tracked_in_bounds_3 { h.tracked ≤ length uses.old }
-    requires next_bound { h.scan.remaining + h.scan.next ≤ sender.«TABLES» }
-    ensures { scanning.scanning result (store.rows tags.new units.new uses.new) (wants.hist counts.new sums.new)
-        ≡ scanning.again (scanning.scanning h (store.rows tags.old units.old uses.old) (wants.hist counts.old sums.old)) }
+)
+    requires tracked_in_bounds { h.old.tracked ≤ length tags.old }
+    requires tracked_in_bounds_2 { h.old.tracked ≤ length units.old }
+    requires tracked_in_bounds_3 { h.old.tracked ≤ length uses.old }
+    requires next_bound { h.old.scan.remaining + h.old.scan.next ≤ sender.«TABLES» }
+    ensures { scanning.scanning h.new (store.rows tags.new units.new uses.new) (wants.hist counts.new sums.new)
+        ≡ scanning.again (scanning.scanning h.old (store.rows tags.old units.old uses.old) (wants.hist counts.old sums.old)) }
 {
-    let s = h.scan;
-    if s.remaining >= 1 {
-        let overflow = h.overflow;
-        let n = swept(
-            tags, units, uses, counts, sums, overflow, h.tracked, s.next, s.at_ms,
-        );
-        visited(h, n)
-    } else {
-        h
+    if h.scan.remaining >= 1 {
+        visit(h, tags, units, uses, counts, sums);
     }
 }
 
 fn ended(h: Shedder, counts: &Counts, sums: &Sums) -> Shedder
     ensures { result ≡ scanning.ended h (wants.hist counts.now sums.now) }
 {
-    let s = h.scan;
-    if s.remaining == 0 {
+    if h.scan.remaining == 0 {
         scan_trim::trimmed(h, counts, sums)
     } else {
         h
     }
 }
 
-fn opened(h: Shedder, clock: u64) -> Shedder
-    ensures { result ≡ scanning.opened h clock }
+#[tactic(auto, unfolding(crate::specs::Scanning::opened))]
+fn open(h: &mut Shedder, clock: u64)
+    ensures { h.new ≡ scanning.opened h.old clock }
 {
-    let mut s = h.scan;
-    s.remaining = TABLES;
-    s.next = 0;
-    s.at_ms = clock;
-    s.began_ms = clock;
-    let mut r = h;
-    r.scan = s;
-    r
+    let scan = &mut h.scan;
+    scan.remaining = TABLES;
+    scan.next = 0;
+    scan.at_ms = clock;
+    scan.began_ms = clock;
 }
 
-fn begun(h: Shedder, counts: &mut Counts, sums: &mut Sums, clock: u64) -> Shedder
-    requires began_ms_bound { h.scan.began_ms < asked.STAMP_END }
-    requires next_bound { h.scan.remaining + h.scan.next ≤ sender.«TABLES» }
-    ensures sums_after { scanning.started result (wants.hist counts.new sums.new) ≡ scanning.begun h (wants.hist counts.old sums.old) clock }
-    ensures tracked_value { result.tracked ≡ h.tracked }
-    ensures next_bound_2 { result.scan.remaining + result.scan.next ≤ sender.«TABLES» }
+// Whether a scan is under way, once one that is due has begun.
+fn is_running(h: &mut Shedder, counts: &mut Counts, sums: &mut Sums, clock: u64) -> bool
+    requires began_ms_bound { h.old.scan.began_ms < asked.STAMP_END }
+    requires next_bound { h.old.scan.remaining + h.old.scan.next ≤ sender.«TABLES» }
+    ensures value { result ≡ nat_le 1 h.new.scan.remaining }
+    ensures sums_after { scanning.started h.new (wants.hist counts.new sums.new) ≡ scanning.begun h.old (wants.hist counts.old sums.old) clock }
+    ensures tracked_value { h.new.tracked ≡ h.old.tracked }
+    ensures next_bound_2 { h.new.scan.remaining + h.new.scan.next ≤ sender.«TABLES» }
 {
-    let s = h.scan;
-    if 1 <= s.remaining {
-        return h;
+    if h.scan.remaining > 0 {
+        return true;
     }
-    if clock < s.began_ms + SCAN_MS {
-        return h;
-    }
-    wants::clear(counts, sums);
-    opened(h, clock)
-}
-
-// Whether no scan is under way and none is due. It is asked first, so that the head is copied no more often than without a scan.
-fn is_idle(h: Shedder, clock: u64) -> bool
-    requires { h.scan.began_ms < asked.STAMP_END }
-    ensures { result ≡ scanning.is_idle h clock }
-{
-    let s = h.scan;
-    if 1 <= s.remaining {
+    if clock < h.scan.began_ms + SCAN_MS {
         return false;
     }
-    clock < s.began_ms + SCAN_MS
+    wants::clear(counts, sums);
+    open(h, clock);
+    true
 }
 
-// What a judgement does of a scan. The Rust's TABLES_PER_JUDGEMENT, 2, is no number here: `visit` and `again` are the two.
+// What a judgement does of a scan: it visits two tables. The head is lent to each step, so that none copies it.
 pub fn scanned(
-    h: Shedder,
+    mut h: Shedder,
     tags: &mut [u16],
     units: &mut [UnitRow],
     uses: &mut [UseRow],
@@ -303,15 +321,10 @@ pub fn scanned(
     ensures { scanning.scanning result (store.rows tags.new units.new uses.new) (wants.hist counts.new sums.new)
         ≡ scanning.scanned (scanning.scanning h (store.rows tags.old units.old uses.old) (wants.hist counts.old sums.old)) clock }
 {
-    if is_idle(h, clock) {
+    if !is_running(&mut h, counts, sums, clock) {
         return h;
     }
-    let b = begun(h, counts, sums, clock);
-    let s = b.scan;
-    if 1 <= s.remaining {
-        let v = visit(b, tags, units, uses, counts, sums);
-        let w = again(v, tags, units, uses, counts, sums);
-        return ended(w, counts, sums);
-    }
-    b
+    visit(&mut h, tags, units, uses, counts, sums);
+    again(&mut h, tags, units, uses, counts, sums);
+    ended(h, counts, sums)
 }

@@ -6,25 +6,24 @@ ghost use Rattle.store.specs.Store as store;
 ghost use Rattle.store_retain.specs.Retain as retain;
 
 use flow::DIMS;
+use std::mem;
 use store::{UnitRow, UseRow};
 
 // How long a unit that sends nothing stays tracked.
 pub const RETAIN_MS: u64 = 4 * flow::WINDOW_MS;
 
 // Of the table and older than that. The table is asked first: it reads the tag alone.
+#[tactic(auto, unfolding(crate::specs::Retain::is_stale, store::specs::Store::in_table))]
 pub fn is_stale(tags: &[u16], units: &[UnitRow], i: usize, table: usize, at_ms: u64) -> bool
     requires i_in_bounds { i < length tags.now }
     requires i_in_bounds_2 { i < length units.now }
     ensures { result ≡ retain.is_stale tags.now units.now table at_ms i }
 {
-    if store::table_at(tags, i) == table {
-        RETAIN_MS < flow::since(at_ms, store::stamp_at(units, i))
-    } else {
-        false
-    }
+    store::table_at(tags, i) == table && RETAIN_MS < flow::since(at_ms, store::stamp_at(units, i))
 }
 
 // The record at i is moved to j, and i freed.
+#[tactic(auto, unfolding(crate::specs::Retain::moved))]
 fn moved(tags: &mut [u16], units: &mut [UnitRow], uses: &mut [UseRow], i: usize, j: usize)
     requires i_in_bounds { i < length tags.old }
     requires i_in_bounds_2 { i < length units.old }
@@ -32,18 +31,13 @@ fn moved(tags: &mut [u16], units: &mut [UnitRow], uses: &mut [UseRow], i: usize,
     requires j_le_i { j ≤ i }
     ensures { store.rows tags.new units.new uses.new ≡ retain.moved (store.rows tags.old units.old uses.old) i j }
 {
-    let tag = tags[i];
-    let row = units[i];
-    let held = uses[i];
-    tags[i] = 0;
-    units[i] = [0u64; 7];
-    uses[i] = [0.0; 2 * DIMS];
-    tags[j] = tag;
-    units[j] = row;
-    uses[j] = held;
+    tags[j] = mem::replace(&mut tags[i], 0);
+    units[j] = mem::replace(&mut units[i], [0; 7]);
+    uses[j] = mem::replace(&mut uses[i], [0.0; 2 * DIMS]);
 }
 
 // A place becomes zero bits.
+#[tactic(auto, unfolding(crate::specs::Retain::freed))]
 fn freed(tags: &mut [u16], units: &mut [UnitRow], uses: &mut [UseRow], place: usize)
     requires place_in_bounds { place < length tags.old }
     requires place_in_bounds_2 { place < length units.old }
@@ -51,7 +45,7 @@ fn freed(tags: &mut [u16], units: &mut [UnitRow], uses: &mut [UseRow], place: us
     ensures { store.rows tags.new units.new uses.new ≡ retain.freed (store.rows tags.old units.old uses.old) place }
 {
     tags[place] = 0;
-    units[place] = [0u64; 7];
+    units[place] = [0; 7];
     uses[place] = [0.0; 2 * DIMS];
 }
 
@@ -80,7 +74,6 @@ fn retain_one(
     }
     if j < i {
         moved(tags, units, uses, i, j);
-        return j + 1;
     }
     j + 1
 }
@@ -106,11 +99,9 @@ pub fn retain(
     ensures lower_bound { from ≤ result }
     ensures upper_bound { result ≤ n }
 {
-    let mut i = from;
     let mut j = from;
-    while i < n {
+    for i in from..n {
         j = retain_one(tags, units, uses, i, j, table, at_ms);
-        i += 1;
     }
     j
 }

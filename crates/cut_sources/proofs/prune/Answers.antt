@@ -6,29 +6,20 @@ use Rattle.cut_sources.proofs.Tagged.{prune_tags_none, step_tags}
 use Rattle.cut_sources.proofs.prune.Goals as goal
 
 pub loop-i-init : goal.loop-i-init
-loop-i-init c = (search rules, search rules, search rules, refl, sym (prune_none _ _), search rules, refl, sym (prune_tags_none _ _ _))
+loop-i-init c = (search rules, refl, refl, sym (prune_none _ _), sym (prune_tags_none _ _ _))
 
 pub loop-i-preserved : goal.loop-i-preserved
 loop-i-preserved c = (
   search rules,
-  search rules,
-  omega (arith, c.prune_one-j.auto.counted),
-  c.prune_one-j.auto.counted ∙ c.loop-i.invariant.3,
-  c.prune_one-j.ensures.counted_after ∙ ap (λ (s : Sources). prune_one s c.args.k c.loop-i.i) c.loop-i.invariant.4
-      ∙ sym (prune_next _ _ _ (omega (arith, c.loop-i.invariant.3))),
-  omega (arith, c.prune_one-j.auto.tags),
-  c.prune_one-j.auto.tags ∙ c.loop-i.invariant.6,
-  step_tags _ _ _ _ _ _ _ _ c.loop-i.invariant.4 c.loop-i.invariant.7 c.prune_one-j.ensures.tags_after,
+  c.prune_one-j.auto.counted ∙ c.loop-i.invariant.1,
+  c.prune_one-j.auto.tags ∙ c.loop-i.invariant.2,
+  c.prune_one-j.ensures.counted_after ∙ ap (λ (s : Sources). prune_one s c.args.k c.loop-i.i) c.loop-i.invariant.3
+      ∙ sym (prune_next _ _ _ (omega (arith, c.loop-i.invariant.1))),
+  step_tags _ _ _ _ _ _ _ _ c.loop-i.invariant.3 c.loop-i.invariant.4 c.prune_one-j.ensures.tags_after,
 )
 
-pub shape_of-tags : goal.shape_of-tags
-shape_of-tags c = c.loop-i.invariant.6
-
-pub shape_of-counted : goal.shape_of-counted
-shape_of-counted c = c.loop-i.invariant.3
-
 pub returns-clause-counted_after : goal.returns-clause-counted_after
-returns-clause-counted_after c = let e : c.loop-i.i ≡ c.args.n = omega arith in rw e at c.loop-i.invariant.4
+returns-clause-counted_after c = let e : c.loop-i.i ≡ c.args.n = omega arith in rw e at c.loop-i.invariant.3
 
 pub returns-clause-tags_after : goal.returns-clause-tags_after
-returns-clause-tags_after c = let e : c.loop-i.i ≡ c.args.n = omega arith in rw e at c.loop-i.invariant.7
+returns-clause-tags_after c = let e : c.loop-i.i ≡ c.args.n = omega arith in rw e at c.loop-i.invariant.4

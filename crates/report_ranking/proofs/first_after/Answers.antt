@@ -18,18 +18,15 @@ unfolding first_after
 first_next rows n p m = rw add-one
 
 pub loop-i-init : goal.loop-i-init
-loop-i-init c = (search rules, search rules, search rules, search rules, sym (first-none _ _ _))
+loop-i-init c = (search rules, sym (first-none _ _ _))
 
 pub loop-i-preserved : goal.loop-i-preserved
 loop-i-preserved c = (
-  search rules,
-  search rules,
-  search rules,
   c.better-best.ensures.upper_bound,
   c.better-best.ensures.value
       ∙ ap (λ (b : ℕ). better c.args.counted.now c.args.n c.args.p b c.loop-i.i)
-      c.loop-i.invariant.4 ∙ sym (first_next _ _ _ _),
+      c.loop-i.invariant.1 ∙ sym (first_next _ _ _ _),
 )
 
 pub returns-clause-value : goal.returns-clause-value
-returns-clause-value c = let e : c.loop-i.i ≡ c.args.n = omega arith in c.loop-i.invariant.4 ∙ ap (first_after c.args.counted.now c.args.n c.args.p) e
+returns-clause-value c = let e : c.loop-i.i ≡ c.args.n = omega arith in c.loop-i.invariant.1 ∙ ap (first_after c.args.counted.now c.args.n c.args.p) e

@@ -1,13 +1,8 @@
 -- `report_ranking::first_after` meets its contract: the loop holds the earliest of those passed. Assumes nothing.
--- one more source looked at
 use Rattle.report_ranking.specs.Sources.{first_after}
-use lib.ListN.{length}
-use Prim.Native.Nat.{◌≤◌, ◌-◌}
+use Prim.Native.Nat.{◌≤◌}
 use mathlib.Core.Path.{◌≡◌}
 use Rattle.report_ranking.proofs.first_after.Given as goal
 
 abbrev pub invariant-loop-i : goal.invariant-loop-i
-invariant-loop-i l = (l.i ≤ l.n) × (l.n ≤ length l.counted) × (l.p ≤ l.n) × (l.best ≤ l.n) × (l.best ≡ first_after l.counted l.n l.p l.i)
-
-abbrev pub decreases-loop-i : goal.decreases-loop-i
-decreases-loop-i l = l.n - l.i
+invariant-loop-i l = (l.best ≤ l.n) × (l.best ≡ first_after l.counted l.n l.p l.i)

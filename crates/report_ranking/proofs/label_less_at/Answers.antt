@@ -1,30 +1,14 @@
 -- `report_ranking::label_less_at` meets its contract: keys by their words, other labels as texts. Assumes nothing.
-use mathlib.Core.Path.{ap, ◌∙◌}
-use Rattle.text.specs.Order.{less}
-use Rattle.sender.specs.declared.Unit.{Unit}
-use Rattle.label.specs.Label.{label}
-use Rattle.store.specs.Store.{words_at}
-use Rattle.report_ranking.specs.Sources.{label_at}
-use Rattle.report_ranking.proofs.Keys.{key_at, both_keys, first_key, second_key}
+use mathlib.Core.Path.{sym, ◌∙◌}
+use Rattle.report_ranking.proofs.Keys.{both_keys, first_key, second_key}
 use Rattle.report_ranking.proofs.label_less_at.Goals as goal
 
-pub returns-then-y-eq0 : goal.returns-then-y-eq0
-unfolding words_at key_at
-returns-then-y-eq0 c =
-    c.key_less.ensures
-    ∙ both_keys c.args.counted.now c.args.i c.args.j c.if-x-eq0.true c.if-y-eq0.true
+pub returns-in-Corroborated-y : goal.returns-in-Corroborated-y
+returns-in-Corroborated-y c =
+    c.key_less.ensures ∙ both_keys _ _ _ _ (sym c.unit_at.ensures ∙ c.in-Corroborated.is) (sym c.unit_at-y.ensures ∙ c.in-Corroborated-y.is)
 
-pub returns-then-x-eq0 : goal.returns-then-x-eq0
-unfolding words_at
-returns-then-x-eq0 c =
-    first_key c.args.counted.now c.args.i c.args.j c.if-x-eq0.true c.if-y-eq0.false
+pub returns-in_default-y : goal.returns-in_default-y
+returns-in_default-y c = first_key _ _ _ (sym c.unit_at.ensures ∙ c.in-Corroborated.is) (λ l e. c.in_default-y.not-Corroborated l (c.unit_at-y.ensures ∙ e))
 
-pub returns-then-y-eq0-2 : goal.returns-then-y-eq0-2
-unfolding words_at
-returns-then-y-eq0-2 c =
-    second_key c.args.counted.now c.args.i c.args.j c.if-x-eq0.false c.if-y-eq0-2.true
-
-pub returns : goal.returns
-returns c =
-    c.label_less.ensures ∙ ap (λ (u : Unit). less (label u) (label c.unit_at-2.result)) c.unit_at.ensures
-    ∙ ap (λ (u : Unit). less (label_at c.args.counted.now c.args.i) (label u)) c.unit_at-2.ensures
+pub returns-in-Corroborated-y-2 : goal.returns-in-Corroborated-y-2
+returns-in-Corroborated-y-2 c = second_key _ _ _ (λ k e. c.in_default.not-Corroborated k (c.unit_at.ensures ∙ e)) (sym c.unit_at-y.ensures ∙ c.in-Corroborated-y-2.is)

@@ -1,16 +1,12 @@
 use Rattle.scan.specs.Scanning.{again}
-use Rattle.scan.proofs.Scanning.{visit_is}
-use Rattle.std.proofs.Common.{refl, le-leb}
+use Rattle.std.proofs.Common.{le-leb}
 use borrow.Author.Tests.{lt-leb}
 use Rattle.scan.proofs.again.Goals as goal
 
-pub returns-then-s-ge1 : goal.returns-then-s-ge1
+pub returns-then-h-ge1 : goal.returns-then-h-ge1
 unfolding again
-returns-then-s-ge1 c =
-    simp (le-leb _ _ c.if-s-ge1.true)
-    (visit_is c.args.h _ _ c.swept-n.result _ _ _ c.visited.result c.swept-n.ensures.uses_after refl
-    c.swept-n.ensures.sums_after c.visited.ensures)
+returns-then-h-ge1 c = simp (le-leb _ _ c.if-h-ge1.true) c.visit.ensures.sums_after
 
-pub returns-else-s-ge1 : goal.returns-else-s-ge1
+pub returns-else-h-ge1 : goal.returns-else-h-ge1
 unfolding again
-returns-else-s-ge1 c = simp (lt-leb _ _ c.if-s-ge1.false)
+returns-else-h-ge1 c = simp (lt-leb _ _ c.if-h-ge1.false)

@@ -9,6 +9,6 @@ retain-n-requires-clause-none c = c.walk_to_stale-i.ensures.none
 pub returns : goal.returns
 returns c = record {
   uses_after = c.retain-n.ensures.uses_after;
-  sums_after = c.walk.ensures _ (walked_before _ _ _ _ _ _ _ _ _ c.retain-n.ensures.uses_after c.walk_to_stale-i.ensures.upper_bound c.walk_to_stale-i.ensures.none (c.walk_to_stale-i.ensures.sums_after ∙ ap (walk _ _ _ _) c.walk_overflow.ensures));
+  sums_after = c.walk_rest.ensures _ (walked_before _ _ _ _ _ _ _ _ _ c.retain-n.ensures.uses_after c.walk_to_stale-i.ensures.upper_bound c.walk_to_stale-i.ensures.none (c.walk_to_stale-i.ensures.sums_after ∙ ap (walk _ _ _ _) c.walk_overflow.ensures));
   upper_bound = c.retain-n.ensures.upper_bound;
 }

@@ -1,14 +1,15 @@
 use Rattle.store.specs.Store.{rows, in_table}
 use Rattle.wants.specs.Wants.{Hist, hist}
-use Rattle.std.proofs.Common.{◌≡◌, ◌-◌, ◌<◌, ◌≤◌, true, length}
+use Rattle.std.proofs.Common.{◌≡◌, ℕ, ◌-◌, ◌<◌, ◌≤◌, true, false}
 use Rattle.scan.specs.Walking.{walk}
 use Rattle.scan.proofs.walk.Given as goal
 
 abbrev pub invariant-loop-i : goal.invariant-loop-i
-invariant-loop-i l =
-    (l.i ≤ l.n) × (l.n ≤ length l.tags) × (l.n ≤ length l.units) × (l.n ≤ length l.uses) × (l.i < l.n → in_table l.tags l.table l.i ≡ true)
-    × ((g : Hist) → hist l.initial.counts l.initial.sums ≡ walk (rows l.tags l.units l.uses) l.table l.at_ms l.from g
-    → hist l.counts l.sums ≡ walk (rows l.tags l.units l.uses) l.table l.at_ms l.i g)
+invariant-loop-i g l =
+    (l.i ≤ l.n) × (l.i < l.n → in_table l.tags l.table l.i ≡ true)
+    × ((k : ℕ) → l.from ≤ k → k < l.i → in_table l.tags l.table k ≡ true → goal.F-post g l.stops k false)
+    × ((h : Hist) → hist l.initial.counts l.initial.sums ≡ walk (rows l.tags l.units l.uses) l.table l.at_ms l.from h
+    → hist l.counts l.sums ≡ walk (rows l.tags l.units l.uses) l.table l.at_ms l.i h)
 
 abbrev pub decreases-loop-i : goal.decreases-loop-i
-decreases-loop-i l = l.n - l.i
+decreases-loop-i g l = l.n - l.i

@@ -1,5 +1,5 @@
 -- `store::floats::joined` meets its contract. Assumes nothing.
-use Prim.Native.Nat.{◌≤◌, ◌-◌, ◌+◌}
+use Prim.Native.Nat.{◌+◌}
 use lib.ListN.{replicate}
 use mathlib.Core.Path.{◌≡◌}
 use Rattle.ieee.specs.Doubles.{nothing}
@@ -8,7 +8,4 @@ use Rattle.store.specs.Store.{picked}
 use Rattle.store.proofs.floats.joined.Given as goal
 
 abbrev pub invariant-loop-i : goal.invariant-loop-i
-invariant-loop-i l = (l.i ≤ dims + dims) × (l.out ≡ upto (picked l.a l.b) l.i (replicate (dims + dims) nothing))
-
-abbrev pub decreases-loop-i : goal.decreases-loop-i
-decreases-loop-i l = (dims + dims) - l.i
+invariant-loop-i l = l.out ≡ upto (picked l.a l.b) l.i (replicate (dims + dims) nothing)

@@ -1,5 +1,4 @@
 -- `store::floats::part` meets its contract. Assumes nothing.
-use borrow.Author.Rules.{rules}
 use mathlib.Core.Path.{◌≡◌}
 use native.Mathlib.Omega.{arith}
 use Rattle.flow.proofs.Parts.{upto_none, upto_next}
@@ -8,11 +7,11 @@ use Rattle.store.specs.Store.{part}
 use Rattle.store.proofs.floats.part.Goals as goal
 
 pub loop-d-init : goal.loop-d-init
-loop-d-init c = (search rules, search rules, simp upto_none)
+loop-d-init c = simp upto_none
 
 pub loop-d-preserved : goal.loop-d-preserved
-loop-d-preserved c = (search rules, search rules, simp (upto_next, c.loop-d.invariant.2))
+loop-d-preserved c = simp (upto_next, c.loop-d.invariant)
 
 pub returns : goal.returns
 unfolding part
-returns c = let e : c.loop-d.d ≡ dims = omega arith in simp (c.loop-d.invariant.2, e)
+returns c = let e : c.loop-d.d ≡ dims = omega arith in simp (c.loop-d.invariant, e)

@@ -1,5 +1,5 @@
 -- `store::floats::part` meets its contract. Assumes nothing.
-use Prim.Native.Nat.{ℕ, ◌≤◌, ◌-◌, ◌+◌}
+use Prim.Native.Nat.{ℕ, ◌+◌}
 use lib.ListN.{replicate}
 use mathlib.Core.Path.{◌≡◌}
 use Rattle.ieee.specs.Doubles.{nothing}
@@ -7,7 +7,4 @@ use Rattle.flow.specs.Flow.{at, upto, dims}
 use Rattle.store.proofs.floats.part.Given as goal
 
 abbrev pub invariant-loop-d : goal.invariant-loop-d
-invariant-loop-d l = (l.d ≤ dims) × (l.from + dims ≤ dims + dims) × (l.out ≡ upto (λ (i : ℕ). at l.row (l.from + i)) l.d (replicate dims nothing))
-
-abbrev pub decreases-loop-d : goal.decreases-loop-d
-decreases-loop-d l = dims - l.d
+invariant-loop-d l = l.out ≡ upto (λ (i : ℕ). at l.row (l.from + i)) l.d (replicate dims nothing)

@@ -1,0 +1,2 @@
+-- Passing: which tags pass a test.
+pub mod Passing
