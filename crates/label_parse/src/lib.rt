@@ -56,6 +56,7 @@ fn field_at(s: &[u8], start: usize, base: u64, most: usize) -> Field
     Field { value, at: end }
 }
 
+#[tactic(auto, unfolding(crate::specs::Parse::word_at))]
 fn word_at(s: &[u8], at: usize) -> u64
     requires { at < 256 }
     ensures { result ≡ parsing.word_at s.now at }
@@ -63,6 +64,7 @@ fn word_at(s: &[u8], at: usize) -> u64
     field_at(s, at, 16, 16).value
 }
 
+#[tactic(auto, unfolding(crate::specs::Parse::key_of))]
 fn key_of(s: &[u8]) -> PublicKey
     ensures { result ≡ parsing.key_of s.now }
 {
@@ -75,6 +77,7 @@ fn key_of(s: &[u8]) -> PublicKey
 }
 
 // The two fields behind `v4:` or `v6:`, with one byte between them.
+#[tactic(auto, using(crate::proofs::Fields::second_is), unfolding(crate::specs::Parse::first_of))]
 fn pair_of(s: &[u8], base: u64, most: usize) -> (u64, u64)
     requires base_nonzero { 0 < base }
     requires base_bound { base ≤ 16 }

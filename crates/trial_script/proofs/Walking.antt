@@ -5,7 +5,7 @@ use mathlib.Core.List.{List, [], ◌∷◌, ◌++◌, append_assoc}
 use Prim.Native.Nat.{ℕ, suc, ◌+◌, ◌-◌, ◌*◌, ◌≤◌, ◌<◌}
 use native.Mathlib.Numerals.{add-one}
 use native.Mathlib.Omega.{arith}
-use borrow.Author.Tests.{lt-ltb, le-ltb, ltb-true, ltb-false}
+use borrow.Author.Tests.{lt-ltb, ltb-true, ltb-false}
 use lib.Dec.{eqb}
 use Rattle.std.specs.Prelude.{Some, None}
 use Rattle.std.specs.List.{fold, position, position_or_len}
@@ -84,10 +84,6 @@ number_is s = sym (equal_same (decimal (number_in s)) s)
 pub grown_fits : (n x d : ℕ) → d ≡ x - 48 → n * 10 + d < 18446744073709551616 → n * 10 + d ≡ grown n x
 unfolding grown
 grown_fits n x d e h = rw (← e) (simp (lt-ltb _ _ h))
-
-pub grown_stays : (n x d : ℕ) → d ≡ x - 48 → 18446744073709551616 ≤ n * 10 + d → n ≡ grown n x
-unfolding grown
-grown_stays n x d e h = rw (← e) (simp (le-ltb _ _ h))
 
 -- several numbers: of those from place k on, which `left` holds, the first is `v`
 module _ (left : List ℕ) (last k : ℕ) (below : k < last) where

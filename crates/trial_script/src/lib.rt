@@ -5,12 +5,13 @@ mod answers;
 mod fields;
 mod lines;
 
-ghost use Rattle.std.specs.Prelude.{◌≡◌, MatchOption, false, true};
+ghost use Rattle.std.specs.Prelude.{◌≡◌, ◌∷◌, [], MatchOption, false, true};
 ghost use Rattle.trial_script.specs.Script as script;
 
 pub use answers::{put_answer, put_begin, put_done, put_refused};
 use fields::split;
 pub use fields::{first, numbers, rest};
+use flow::DIMS;
 use head::Cause;
 pub use lines::{FEED, LINE, front, keep};
 use sender::Unit;
@@ -23,6 +24,14 @@ pub const LINE_MOST: usize = 200;
 pub struct Amounts {
     pub receptions: u64,
     pub bytes: u64,
+}
+
+impl From<Amounts> for [u64; DIMS] {
+    ghost from_gives = { λ a dims. dims ≡ a.receptions ∷ a.bytes ∷ [] };
+
+    fn from(a: Amounts) -> [u64; DIMS] {
+        [a.receptions, a.bytes]
+    }
 }
 
 #[derive(Clone, Copy)]
@@ -59,6 +68,7 @@ pub enum Line {
 fn cause_in(s: &[u8]) -> Option<Cause>
     ensures { MatchOption result (script.is_cause s.now ≡ false) (λ cause. (script.is_cause s.now ≡ true) × (cause ≡ script.cause_in s.now)) }
 {
+    // A `match` on the three texts is tried byte by byte, in thirty-eight cases, and the proof does not close.
     if text::same(s, b"receiver-ceiling") {
         Some(Cause::ReceiverCeiling)
     } else if text::same(s, b"over-share") {
@@ -116,6 +126,7 @@ pub fn read_line(s: &[u8]) -> Option<Line>
     ensures value { result ≡ script.line s.now }
     ensures exact { script.Exact s.now result }
 {
+    // What a `match` on s finds is lost to the proof at the next call.
     if text::same(s, b"P") {
         return Some(Line::Report);
     }
