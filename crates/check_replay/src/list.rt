@@ -122,9 +122,10 @@ fn watch(rt: &impl Print, l: List, rows: &[[u64; 7 + DIMS]; ROWS], s: &[u8]) -> 
     let Some(watched) = label_parse::parse(trial_script::first(s)) else {
         return Ok(());
     };
-    let Some([from, to]) = trial_script::numbers::<2>(trial_script::rest(s)) else {
+    let Some(places) = trial_script::numbers::<2>(trial_script::rest(s)) else {
         return Ok(());
     };
+    let [from, to] = places;
     let list = first_rows(rows, l.rows);
     runs::run(rt, l.start, list, watched, from as usize, to as usize)
 }
