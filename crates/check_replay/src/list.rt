@@ -119,18 +119,15 @@ fn readings(list: List, rows: &mut [[u64; 7 + DIMS]; ROWS]) -> List {
 // `W label from to`, of which s is the part behind `W `: the list is run with that record watched, the run being the rows
 // from `from` to before `to`.
 fn watch(rt: &impl Print, l: List, rows: &[[u64; 7 + DIMS]; ROWS], s: &[u8]) -> io::Result<()> {
-    let name = trial_script::first(s);
-    let numbers = trial_script::rest(s);
-    if label_parse::is_label(name) {
-        if trial_script::are_numbers(numbers, 1) {
-            let start = l.start;
-            let watched = label_parse::unit_in(name);
-            let from = trial_script::number_at(numbers, 0) as usize;
-            let to = trial_script::number_at(numbers, 1) as usize;
-            runs::run(rt, start, first_rows(rows, l.rows), watched, from, to)?;
-        }
-    }
-    Ok(())
+    let Some(watched) = label_parse::parse(trial_script::first(s)) else {
+        return Ok(());
+    };
+    let Some(places) = trial_script::numbers::<2>(trial_script::rest(s)) else {
+        return Ok(());
+    };
+    let [from, to] = places;
+    let list = first_rows(rows, l.rows);
+    runs::run(rt, l.start, list, watched, from as usize, to as usize)
 }
 
 // The line is said again, so that what it gives stands below it.
@@ -164,13 +161,12 @@ fn ended(
     if whole.len() > LINE_MOST {
         return Ok(l);
     }
-    let read = trial_script::read_line(whole);
-    match read {
-        Line::Start(s) => Ok(started(l, s)),
-        Line::Judge(j) => Ok(judgement(l, rows, j)),
-        Line::Cut(c) => Ok(cut(l, rows, c)),
-        Line::Report => Ok(readings(l, rows)),
-        Line::Nothing => {
+    match trial_script::read_line(whole) {
+        Some(Line::Start(s)) => Ok(started(l, s)),
+        Some(Line::Judge(j)) => Ok(judgement(l, rows, j)),
+        Some(Line::Cut(c)) => Ok(cut(l, rows, c)),
+        Some(Line::Report) => Ok(readings(l, rows)),
+        None => {
             watched(rt, l, rows, whole)?;
             Ok(l)
         }

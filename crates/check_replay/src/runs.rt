@@ -5,11 +5,7 @@ use sender::Unit;
 use std::io;
 use store::{SourceRow, UnitRow, UseRow};
 use trial::{COUNTED, REPORT, TAGS, UNITS};
-use trial_script::{Amounts, StartLine, front};
-
-fn of_dims(a: Amounts) -> [u64; DIMS] {
-    [a.receptions, a.bytes]
-}
+use trial_script::{StartLine, front};
 
 fn say_amounts(rt: &impl Print, word: &str, xs: [u64; DIMS]) -> io::Result<()> {
     println!(rt; "{word} {} {}", xs[0], xs[1])
@@ -92,8 +88,8 @@ pub fn run(
         &mut counts,
         &mut sums,
         &counted,
-        of_dims(start.rate),
-        of_dims(start.ceiling),
+        start.rate.into(),
+        start.ceiling.into(),
     );
     let begun = s.head;
     let r = fair_replay::replay(

@@ -1,5 +1,5 @@
 -- A field read from a text: where its reading stops, a turn of it, and that its number stays within its digits. Assumes nothing.
-use mathlib.Core.Path.{◌≡◌, refl, ap, ◌∙◌}
+use mathlib.Core.Path.{◌≡◌, refl, sym, ap, ◌∙◌}
 use mathlib.Core.List.{List}
 use Prim.Native.Nat.{ℕ, zero, suc, ◌+◌, ◌-◌, ◌*◌, ◌^◌, ◌≤◌, ◌<◌}
 use native.Mathlib.Nat.{pow-suc, pow-le-pow_right, mul-le-mul_right}
@@ -25,12 +25,18 @@ module _ (base : ℕ) (s : List ℕ) (f : Field) where
   unfolding field
   field_turn left h = simp (lt-ltb _ _ h)
 
-  pub field_more : (left : ℕ) → 0 < left → digit (get_or s f.at 0) < base
-      → field base left s f ≡ field base (left - 1) s (record { value = f.value * base + digit (get_or s f.at 0); at = f.at + 1 })
-  field_more zero p h = absurd (omega arith)
-  field_more (suc left) p h =
-      let e : suc left - 1 ≡ left = omega arith in
-      rw e (field_turn left h)
+-- a digit more, where the reading goes on to the place `end`
+pub field_next : (base : ℕ) (s : List ℕ) (value at end d : ℕ) → at < end → d ≡ digit (get_or s at 0) → d < base
+    → field base (end - at) s (record { value = value; at = at }) ≡ field base (end - (at + 1)) s (record { value = value * base + d; at = at + 1 })
+field_next base s value at end d l e h =
+    let k : end - at ≡ suc (end - (at + 1)) = omega arith in
+    rw (e, k) (field_turn base s (record { value = value; at = at }) (end - (at + 1)) (rw e at h))
+
+pub field_done : (base : ℕ) (s : List ℕ) (value at end : ℕ) (whole : Field) → end ≤ at → at ≤ end
+    → field base (end - at) s (record { value = value; at = at }) ≡ whole → record { value = value; at = end } ≡ whole
+field_done base s value at end whole h l e =
+    let k : at ≡ end = omega arith in
+    rw k at (sym (field_end base s (record { value = value; at = at }) (end - at) (omega arith)) ∙ e)
 
 -- one digit more
 pub grown : (base k : ℕ) {value d : ℕ} → value < base ^ k → d < base → value * base + d < base ^ suc k
@@ -41,15 +47,17 @@ grown base k {value} {d} h l =
 pub grown_within : (base k most : ℕ) {value d : ℕ} → value < base ^ k → d < base → k < most → value * base + d < base ^ most
 grown_within base k most {value} {d} h l p = omega (arith, grown base k h l, pow-le-pow_right {n = base} (omega arith) {i = suc k} {j = most} p)
 
--- fewer digits than there may be
-pub raised : (base left most value : ℕ) → value < base ^ (most - left) → 0 < base → value < base ^ most
-raised base left most value h p = omega (arith, pow-le-pow_right {n = base} p {i = most - left} {j = most} (omega arith))
+pub grown_next : (base start at : ℕ) {value d : ℕ} → start ≤ at → value < base ^ (at - start) → d < base → value * base + d < base ^ (at + 1 - start)
+grown_next base start at from h l =
+    let k : at + 1 - start ≡ suc (at - start) = omega arith in
+    rw k (grown base (at - start) h l)
 
--- a number made of two fields as they were read
-pub two_fields : (base most : ℕ) (s : List ℕ) (x y : Field) (f g : ℕ → ℕ)
-    → x ≡ field base most s (from 3) → y ≡ field base most s (from (x.at + 1))
-    → f x.value + g y.value ≡ f (first_of base most s).value + g (second-of base most s).value
+-- fewer digits than there may be
+pub raised : (base k most value : ℕ) → value < base ^ k → k ≤ most → 0 < base → value < base ^ most
+raised base k most value h l p = omega (arith, pow-le-pow_right {n = base} p {i = k} {j = most} l)
+
+-- the second of two fields as they were read
+pub second_is : (base most : ℕ) (s : List ℕ) (x y : Field) → x ≡ field base most s (from 3) → y ≡ field base most s (from (x.at + 1))
+    → y.value ≡ (second-of base most s).value
 unfolding first_of second-of
-two_fields base most s x y f g ex ey =
-    ap (λ (w : Field). f x.value + g w.value) (ey ∙ ap (λ (w : Field). field base most s (from (w.at + 1))) ex)
-    ∙ ap (λ (w : Field). f w.value + g (field base most s (from ((field base most s (from 3)).at + 1))).value) ex
+second_is base most s x y ex ey = ap (λ (w : Field). w.value) (ey ∙ ap (λ (w : Field). field base most s (from (w.at + 1))) ex)

@@ -5,18 +5,22 @@ use mathlib.Core.List.{List, [], ◌∷◌, ◌++◌, append_assoc}
 use Prim.Native.Nat.{ℕ, ◌/◌, ◌%◌, ◌<◌}
 use native.Mathlib.Nat.{div-add-mod', mod-lt, div-lt_iff_lt-mul, mod-eq_of_lt}
 use native.Mathlib.Omega.{arith}
+use lib.Dec.{eqb}
 use lib.ListN.{length, length-append}
 use Rattle.text.specs.Page.{joined}
 use Rattle.text.specs.Number.{decimal, hexadecimal, word}
 use Rattle.text.proofs.Numbers.{length_word}
+use Rattle.text.specs.Order.{same}
 use Rattle.text.proofs.Orders.{same_refl, same_eq}
 use Rattle.sender.specs.declared.PublicKey.{PublicKey}
 use Rattle.sender.specs.declared.Group.TheVariants.{V4, V6}
 use Rattle.sender.specs.declared.Unit as unit
 use Rattle.sender.specs.declared.Unit.TheVariants.{Corroborated, Group as Grouped, NoAddress, Overflow}
 use Rattle.label_parse.specs.declared.Field.{Field}
-use Rattle.label_parse.specs.declared.Parsed as parsed
-use Rattle.label_parse.specs.declared.Parsed.TheVariants.{Unit as Taken, Nothing}
+use Rattle.std.specs.Prelude.{Option, Some, None, is_some}
+use Rattle.std.specs.Bool.{then_some}
+use Rattle.std.specs.Cmp.Lexicographic.{pointwise}
+use Rattle.label_parse.proofs.Bytes.{equal_same}
 use Rattle.label.specs.Label.{label, key_label, v4_label, v6_label}
 use Rattle.label_parse.specs.Parse.{digit, field, word_at, key_of, v4_of, v6_of, unit_in, is_label, parse, KeyFits, InRange, Exact}
 use Rattle.label_parse.proofs.Reading.{field_digits, first_value, second_value}
@@ -97,21 +101,40 @@ unfolding is_label
 taken_is s h = same_eq _ _ h
 
 -- what is taken prints to the same bytes
-pub parse_label : (s : List ℕ) (u : unit.Unit) → parse s ≡ Taken u → label u ≡ s
+pub parse_label : (s : List ℕ) (u : unit.Unit) → parse s ≡ Some u → label u ≡ s
 unfolding parse
 parse_label s u e = by (is_label s) refl e
   where
-    by : (t : Bool) → is_label s ≡ t → cond t (Taken (unit_in s)) Nothing ≡ Taken u → label u ≡ s
+    by : (t : Bool) → is_label s ≡ t → cond t (Some (unit_in s)) None ≡ Some u → label u ≡ s
     by true h k = let same_bytes = taken_is s h in cc
     by false h k = let z : ◌≡◌ {A = ℕ} 0 1 = cc in absurd (omega arith)
 
 -- each label is taken
-pub label_parse_lem : (u : unit.Unit) → InRange u → parse (label u) ≡ Taken u
+pub label_parse_lem : (u : unit.Unit) → InRange u → parse (label u) ≡ Some u
 unfolding parse is_label
 label_parse_lem u r = simp (unit_read u r, same_refl (label u))
 
 pub parse_exact : (s : List ℕ) → Exact s (parse s)
 parse_exact s = record { taken = parse_label s; every = λ u r e. rw e at (label_parse_lem u r) }
 
-pub exact_of : (s : List ℕ) (r : parsed.Parsed) → r ≡ parse s → (r ≡ parse s) × Exact s r
-exact_of s r e = (e, rw e (parse_exact s))
+pub exact_of : (s : List ℕ) (r : Option unit.Unit) → r ≡ parse s → Exact s r
+exact_of s r e = rw e (parse_exact s)
+
+some_if : (t : Bool) (u : unit.Unit) → then_some t u ≡ cond t (Some u) None
+some_if true u = refl
+some_if false u = refl
+
+-- `parse` as the code finds it: the unit read, where its printed label is the text
+pub found : (s : List ℕ) → parse s ≡ then_some (pointwise eqb (label (unit_in s)) s) (unit_in s)
+unfolding parse is_label
+found s =
+    sym (some_if (same (label (unit_in s)) s) (unit_in s))
+    ∙ ap (λ (t : Bool). then_some t (unit_in s)) (sym (equal_same (label (unit_in s)) s))
+
+pub is_some_parse : (s : List ℕ) → is_some (parse s) ≡ is_label s
+unfolding parse
+is_some_parse s = by (is_label s)
+  where
+    by : (t : Bool) → is_some (cond t (Some (unit_in s)) None) ≡ t
+    by true = refl
+    by false = refl

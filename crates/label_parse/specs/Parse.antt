@@ -1,6 +1,6 @@
 -- A label read back. Definitions only. The fields are read without asking for their form, and the unit so read is taken
 -- only if its label is the text: so exactly the labels are taken.
-use Rattle.std.specs.Prelude.{ℕ, zero, suc, ◌+◌, ◌-◌, ◌*◌, ◌%◌, ◌^◌, ◌<◌, ◌≡◌, Bool, cond, List, eqb, ltb, get_or}
+use Rattle.std.specs.Prelude.{ℕ, zero, suc, ◌+◌, ◌-◌, ◌*◌, ◌%◌, ◌^◌, ◌<◌, ◌≡◌, Bool, cond, List, Option, Some, None, eqb, ltb, get_or}
 use Rattle.text.specs.Order.{same}
 use Rattle.label.specs.Label.{label}
 use Rattle.sender.specs.declared.PublicKey.{PublicKey}
@@ -8,8 +8,6 @@ use Rattle.sender.specs.declared.Group.TheVariants.{V4, V6}
 use Rattle.sender.specs.declared.Unit as unit
 use Rattle.sender.specs.declared.Unit.TheVariants.{Corroborated, Group as Grouped, NoAddress, Overflow}
 use Rattle.label_parse.specs.declared.Field.{Field}
-use Rattle.label_parse.specs.declared.Parsed as parsed
-use Rattle.label_parse.specs.declared.Parsed.TheVariants.{Unit as Taken, Nothing}
 
 -- the value of a digit, `0` to `9` and `a` to `f`; 16 of any other byte
 unfoldable pub digit : ℕ → ℕ
@@ -61,8 +59,8 @@ unit_in s =
 unfoldable pub is_label : List ℕ → Bool
 is_label s = same (label (unit_in s)) s
 
-unfoldable pub parse : List ℕ → parsed.Parsed
-parse s = cond (is_label s) (Taken (unit_in s)) Nothing
+unfoldable pub parse : List ℕ → Option unit.Unit
+parse s = cond (is_label s) (Some (unit_in s)) None
 
 -- the numbers of a unit are of their types
 pub record KeyFits (k : PublicKey) : Type 0 where
@@ -79,6 +77,6 @@ InRange NoAddress = Unit {0}
 InRange Overflow = Unit {0}
 
 -- r says exactly what s is: the unit whose label it is, where there is one
-pub record Exact (s : List ℕ) (r : parsed.Parsed) : Type 0 where
-  pub taken : (u : unit.Unit) → r ≡ Taken u → label u ≡ s
-  pub every : (u : unit.Unit) → InRange u → label u ≡ s → r ≡ Taken u
+pub record Exact (s : List ℕ) (r : Option unit.Unit) : Type 0 where
+  pub taken : (u : unit.Unit) → r ≡ Some u → label u ≡ s
+  pub every : (u : unit.Unit) → InRange u → label u ≡ s → r ≡ Some u

@@ -1,12 +1,12 @@
 -- What a call leaves is the definition's state: each kind of line, from what the functions that it calls promise. Assumes nothing.
 use mathlib.Core.Path.{◌≡◌, sym, ap, ◌∙◌}
 use mathlib.Core.Bool.{Bool, true, false, cond}
-use mathlib.Core.List.{List, []}
+use mathlib.Core.List.{List}
 use Prim.Native.Nat.{ℕ, ◌≤◌, ◌<◌}
 use borrow.Author.Tests.{eq-eqb, ne_eqb, le-leb, lt-leb}
 use lib.Dec.{eqb}
 use lib.ListN.{length, length-replicate}
-use Rattle.text.specs.Page.{Page, page, write}
+use Rattle.text.specs.Page.{Page, write}
 use Rattle.store.specs.Store.{Rows}
 use Rattle.wants.specs.Wants.{Hist}
 use Rattle.head.specs.declared.Shedder.{Shedder}
@@ -27,6 +27,7 @@ use Rattle.head.specs.declared.Done.{Done}
 use Rattle.trial_script.specs.declared.StartLine.{StartLine}
 use Rattle.trial_script.specs.declared.JudgeLine.{JudgeLine}
 use Rattle.trial_script.specs.declared.CutLine.{CutLine}
+use Rattle.std.specs.Prelude.{Option}
 use Rattle.trial_script.specs.declared.Line as script
 use Rattle.trial_script.specs.Script.{line}
 use Rattle.trial_script.specs.Answers.{refused_text, begin_text, answer_text, done_text}
@@ -141,7 +142,7 @@ module _ (s : State) where
   unfolding answer
   answer_long bytes r h f = f ∙ ap (λ (x : Bool). cond x (call s (line bytes)) (refused s 8)) (sym (lt-leb (length bytes) 200 h))
 
-  pub answer_line : (bytes : List ℕ) (r : State) (l : script.Line) → length bytes ≤ 200 → l ≡ line bytes → r ≡ call s l → r ≡ answer s bytes
+  pub answer_line : (bytes : List ℕ) (r : State) (l : Option script.Line) → length bytes ≤ 200 → l ≡ line bytes → r ≡ call s l → r ≡ answer s bytes
   unfolding answer
   answer_line bytes r l h e f =
       f

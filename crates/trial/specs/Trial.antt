@@ -1,5 +1,5 @@
 -- One line of the trial answered: the shedder, its lent memory and the page of answers before and after. Definitions only.
-use Rattle.std.specs.Prelude.{ℕ, Bool, true, false, cond, List, [], ◌∷◌, eqb, leb, length, replicate}
+use Rattle.std.specs.Prelude.{ℕ, Bool, true, false, cond, Option, Some, None, List, [], ◌∷◌, eqb, leb, length, replicate}
 use Rattle.ieee.specs.Doubles.{nothing}
 use Rattle.flow.specs.Flow.{dims, zeros, added}
 use Rattle.store.specs.Store.{«CAUSES»}
@@ -17,7 +17,7 @@ use Rattle.trial_script.specs.declared.StartLine.{StartLine}
 use Rattle.trial_script.specs.declared.JudgeLine.{JudgeLine}
 use Rattle.trial_script.specs.declared.CutLine.{CutLine}
 use Rattle.trial_script.specs.declared.Line as script
-use Rattle.trial_script.specs.declared.Line.TheVariants.{Start, Judge, Cut, Report, Nothing}
+use Rattle.trial_script.specs.declared.Line.TheVariants.{Start, Judge, Cut, Report}
 use Rattle.trial_script.specs.Script.{line}
 use Rattle.trial_script.specs.Answers.{refused_text, begin_text, answer_text, done_text}
 use Rattle.trial.specs.declared.Trial as trial
@@ -117,12 +117,12 @@ reported s = record { head = s.head; started = s.started; memory = s.memory; pag
 unfoldable pub report : State → State
 report s = cond s.started (cond (eqb (asked s) 0) (reported s) (refused s (asked s))) (refused s 8)
 
-unfoldable pub call : State → script.Line → State
-call s (Start l) = start s l
-call s (Judge l) = judge s l
-call s (Cut l) = cut s l
-call s Report = report s
-call s Nothing = refused s 8
+unfoldable pub call : State → Option script.Line → State
+call s (Some (Start l)) = start s l
+call s (Some (Judge l)) = judge s l
+call s (Some (Cut l)) = cut s l
+call s (Some Report) = report s
+call s None = refused s 8
 
 -- THE TRIAL'S STEP: a line of more than 200 bytes is no line
 unfoldable pub answer : State → List ℕ → State

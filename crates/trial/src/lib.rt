@@ -11,7 +11,7 @@ ghost use Rattle.trial.specs.Trial as trial;
 use flow::{Bucket, DIMS, Use};
 use head::{Begin, CAUSES, Flow, Scan, Shedder};
 use store::{SourceRow, UnitRow, UseRow};
-use trial_script::{Amounts, CutLine, JudgeLine, LINE_MOST, Line, StartLine};
+use trial_script::{CutLine, JudgeLine, LINE_MOST, Line, StartLine};
 use wants::{Counts, Sums};
 
 // The trial's sizes: unit records, counted records, the report's buffer.
@@ -32,12 +32,6 @@ pub struct Trial {
     pub head: Shedder,
     pub is_started: bool,
     pub at: usize,
-}
-
-fn of_dims(a: Amounts) -> [u64; DIMS]
-    ensures { result ≡ trial.of_dims a }
-{
-    [a.receptions, a.bytes]
 }
 
 // Whether a shedder is there after a start: the new one, or the one that was.
@@ -135,8 +129,8 @@ fn start(
         counts,
         sums,
         counted,
-        of_dims(l.rate),
-        of_dims(l.ceiling),
+        l.rate.into(),
+        l.ceiling.into(),
     );
     let answer = s.answer;
     let head = s.head;
@@ -177,7 +171,7 @@ fn judge(
         sums,
         counted,
         unit,
-        of_dims(l.cost),
+        l.cost.into(),
         l.stamp,
     );
     let answer = j.answer;
@@ -208,16 +202,7 @@ fn cut(
     let was = t.head;
     let unit = l.unit;
     let cause = l.cause;
-    let c = cut::cut(
-        was,
-        tags,
-        units,
-        uses,
-        counted,
-        unit,
-        cause,
-        of_dims(l.cost),
-    );
+    let c = cut::cut(was, tags, units, uses, counted, unit, cause, l.cost.into());
     let answer = c.answer;
     let head = c.head;
     let at = trial_script::put_done(out, t.at, answer);
@@ -275,12 +260,11 @@ pub fn answer(
     if line.len() > LINE_MOST {
         return refused(t, out, NO_FORM);
     }
-    let l = trial_script::read_line(line);
-    match l {
-        Line::Start(s) => start(t, tags, units, uses, counts, sums, counted, s, out),
-        Line::Judge(j) => judge(t, tags, units, uses, counts, sums, counted, j, out),
-        Line::Cut(c) => cut(t, tags, units, uses, counted, c, out),
-        Line::Report => report(t, tags, units, uses, counted, out),
-        Line::Nothing => refused(t, out, NO_FORM),
+    match trial_script::read_line(line) {
+        Some(Line::Start(s)) => start(t, tags, units, uses, counts, sums, counted, s, out),
+        Some(Line::Judge(j)) => judge(t, tags, units, uses, counts, sums, counted, j, out),
+        Some(Line::Cut(c)) => cut(t, tags, units, uses, counted, c, out),
+        Some(Line::Report) => report(t, tags, units, uses, counted, out),
+        None => refused(t, out, NO_FORM),
     }
 }

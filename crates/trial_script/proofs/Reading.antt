@@ -10,9 +10,9 @@ use borrow.Author.Tests.{lt-ltb, le-ltb}
 use Rattle.io.specs.Digits.{hex_digit_ascii}
 use Rattle.text.specs.Number.{numeral, decimal}
 use Rattle.text.specs.Order.{same}
-use Rattle.text.proofs.Orders.{same_refl}
+use Rattle.text.proofs.Orders.{same_refl, same_eq}
 use Rattle.sender.specs.declared.Unit as unit
-use Rattle.label_parse.specs.declared.Parsed.TheVariants.{Unit as Taken, Nothing as NoUnit}
+use Rattle.std.specs.Prelude.{Some, None}
 use Rattle.label.specs.Label.{label}
 use Rattle.label_parse.specs.Parse.{parse, is_label, unit_in, InRange}
 use Rattle.label_parse.proofs.Parsing.{label_parse_lem}
@@ -22,7 +22,7 @@ use Rattle.trial_script.specs.declared.StartLine.{StartLine}
 use Rattle.trial_script.specs.declared.JudgeLine.{JudgeLine}
 use Rattle.trial_script.specs.declared.CutLine.{CutLine}
 use Rattle.trial_script.specs.declared.Line as script
-use Rattle.trial_script.specs.declared.Line.TheVariants.{Start, Judge, Cut, Report, Nothing}
+use Rattle.trial_script.specs.declared.Line.TheVariants.{Start, Judge, Cut, Report}
 use Rattle.trial_script.specs.Fields.{width, first, rest, grown, read, number_in, is_number, are_numbers, number_at}
 use Rattle.trial_script.specs.Script.{cause_name, cause_in, is_cause, amounts_at, start_in, judge_in, cut_of, cut_in, line, spaced, text_of, StartFits, JudgeFits, CutFits, Written}
 use Rattle.trial_script.proofs.Walking.{grown_fits}
@@ -92,11 +92,31 @@ at_last : (n : ℕ) → n < 18446744073709551616 → number_at 0 (decimal n) ≡
 unfolding number_at
 at_last n h = ap number_in (first_whole (decimal n) (decimal_clear n)) ∙ number_read n h
 
+-- a number has no space, so it is its own first field
+pub number_text : (s : List ℕ) → is_number s ≡ true → decimal (number_in s) ≡ s
+unfolding is_number
+number_text s e = same_eq (decimal (number_in s)) s e
+
+pub number_first : (s : List ℕ) → is_number s ≡ true → first s ≡ s
+number_first s e = first_whole s (rw (number_text s e) at (decimal_clear (number_in s)))
+
 -- ---- units and causes
 
-label_read_by : (s : List ℕ) (u : unit.Unit) (t : Bool) → cond t (Taken (unit_in s)) NoUnit ≡ Taken u → (t ≡ true) × (unit_in s ≡ u)
+label_read_by : (s : List ℕ) (u : unit.Unit) (t : Bool) → cond t (Some (unit_in s)) None ≡ Some u → (t ≡ true) × (unit_in s ≡ u)
 label_read_by s u true e = (refl, cc)
 label_read_by s u false e = let z : ◌≡◌ {A = ℕ} 0 1 = cc in absurd (omega arith)
+
+label_none_by : (s : List ℕ) (t : Bool) → cond t (Some (unit_in s)) None ≡ None → t ≡ false
+label_none_by s true e = let z : ◌≡◌ {A = ℕ} 0 1 = cc in absurd (omega arith)
+label_none_by s false e = refl
+
+pub label_some : (s : List ℕ) (u : unit.Unit) → Some u ≡ parse s → (is_label s ≡ true) × (unit_in s ≡ u)
+unfolding parse
+label_some s u e = label_read_by s u (is_label s) (sym e)
+
+pub label_none : (s : List ℕ) → None ≡ parse s → is_label s ≡ false
+unfolding parse
+label_none s e = label_none_by s (is_label s) (sym e)
 
 label_read : (u : unit.Unit) → InRange u → (is_label (label u) ≡ true) × (unit_in (label u) ≡ u)
 unfolding parse
@@ -122,11 +142,11 @@ line_cut : (s : List ℕ) → line (67 ∷ 32 ∷ s) ≡ cut_in s
 unfolding line first rest width same
 line_cut s = refl
 
-line_report : line (80 ∷ []) ≡ Report
+line_report : line (80 ∷ []) ≡ Some Report
 unfolding line same
 line_report = refl
 
-start_read : (l : StartLine) → StartFits l → line (text_of (Start l)) ≡ Start l
+start_read : (l : StartLine) → StartFits l → line (text_of (Start l)) ≡ Some (Start l)
 unfolding text_of spaced start_in amounts_at
 start_read l f =
     let a = l.rate.receptions in
@@ -146,7 +166,7 @@ start_read l f =
     let v3 = at_next a ha s1 2 ∙ at_next b hb s2 1 ∙ at_next c hc s3 0 ∙ at_last d hd in
     line_start (decimal a ++ (32 ∷ s1)) ∙ simp (are, at_first a ha s1, v1, v2, v3)
 
-judge_read : (l : JudgeLine) → JudgeFits l → line (text_of (Judge l)) ≡ Judge l
+judge_read : (l : JudgeLine) → JudgeFits l → line (text_of (Judge l)) ≡ Some (Judge l)
 unfolding text_of spaced judge_in amounts_at
 judge_read l f =
     let a = l.cost.receptions in
@@ -166,7 +186,7 @@ judge_read l f =
     line_judge (x ++ (32 ∷ s0))
     ∙ simp (first_seam x s0 (label_clear l.unit), rest_seam x s0 (label_clear l.unit), u.0, u.1, are, at_first a ha s1, v1, v2)
 
-cut_read : (l : CutLine) → CutFits l → line (text_of (Cut l)) ≡ Cut l
+cut_read : (l : CutLine) → CutFits l → line (text_of (Cut l)) ≡ Some (Cut l)
 unfolding text_of spaced cut_in cut_of amounts_at
 cut_read l f =
     let a = l.cost.receptions in
@@ -198,10 +218,9 @@ cut_read l f =
     )
 
 -- each call that a line can be is read back from its text
-pub line_read : (l : script.Line) → Written l → line (text_of l) ≡ l
+pub line_read : (l : script.Line) → Written l → line (text_of l) ≡ Some l
 unfolding text_of
 line_read (Start l) f = start_read l f
 line_read (Judge l) f = judge_read l f
 line_read (Cut l) f = cut_read l f
 line_read Report f = line_report
-line_read Nothing f = absurd f

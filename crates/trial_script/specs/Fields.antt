@@ -39,3 +39,8 @@ are_numbers (suc more) s = is_number (first s) && are_numbers more (rest s)
 unfoldable pub number_at : ℕ → List ℕ → ℕ
 number_at zero s = number_in (first s)
 number_at (suc k) s = number_at k (rest s)
+
+-- the numbers in the first n fields
+unfoldable pub numbers : ℕ → List ℕ → List ℕ
+numbers zero s = []
+numbers (suc n) s = number_in (first s) ∷ numbers n (rest s)

@@ -1,5 +1,5 @@
 -- The trial's language: which lines there are, what call each is, and the text of a call. Definitions only.
-use Rattle.std.specs.Prelude.{ℕ, ◌+◌, ◌^◌, ◌<◌, ◌≡◌, Bool, cond, List, [], ◌∷◌, ◌++◌}
+use Rattle.std.specs.Prelude.{ℕ, ◌+◌, ◌^◌, ◌<◌, ◌≡◌, Bool, cond, List, [], ◌∷◌, ◌++◌, Option, Some, None}
 use Rattle.text.specs.Number.{decimal}
 use Rattle.text.specs.Order.{same}
 use Rattle.label.specs.Label.{label}
@@ -12,7 +12,7 @@ use Rattle.trial_script.specs.declared.StartLine.{StartLine}
 use Rattle.trial_script.specs.declared.JudgeLine.{JudgeLine}
 use Rattle.trial_script.specs.declared.CutLine.{CutLine}
 use Rattle.trial_script.specs.declared.Line as script
-use Rattle.trial_script.specs.declared.Line.TheVariants.{Start, Judge, Cut, Report, Nothing}
+use Rattle.trial_script.specs.declared.Line.TheVariants.{Start, Judge, Cut, Report}
 
 -- `receiver_ceiling`
 abbrev pub receiver_ceiling : List ℕ
@@ -43,37 +43,37 @@ unfoldable pub amounts_at : ℕ → List ℕ → Amounts
 amounts_at k s = record { receptions = number_at k s; bytes = number_at (k + 1) s }
 
 -- behind `R`: two rates and two ceilings
-unfoldable pub start_in : List ℕ → script.Line
-start_in s = cond (are_numbers 3 s) (Start (record { rate = amounts_at 0 s; ceiling = amounts_at 2 s })) Nothing
+unfoldable pub start_in : List ℕ → Option script.Line
+start_in s = cond (are_numbers 3 s) (Some (Start (record { rate = amounts_at 0 s; ceiling = amounts_at 2 s }))) None
 
 -- behind `J`: a unit, two costs and a stamp
-unfoldable pub judge_in : List ℕ → script.Line
+unfoldable pub judge_in : List ℕ → Option script.Line
 judge_in s =
     cond (is_label (first s))
     (cond (are_numbers 2 (rest s))
-    (Judge (record { unit = unit_in (first s); cost = amounts_at 0 (rest s); stamp = number_at 2 (rest s) }))
-    Nothing)
-    Nothing
+    (Some (Judge (record { unit = unit_in (first s); cost = amounts_at 0 (rest s); stamp = number_at 2 (rest s) })))
+    None)
+    None
 
 -- behind `C`: a unit, a cause and two costs
-unfoldable pub cut_of : List ℕ → List ℕ → script.Line
+unfoldable pub cut_of : List ℕ → List ℕ → Option script.Line
 cut_of name s =
     cond (is_cause (first s))
     (cond (are_numbers 1 (rest s))
-    (Cut (record { unit = unit_in name; cause = cause_in (first s); cost = amounts_at 0 (rest s) }))
-    Nothing)
-    Nothing
+    (Some (Cut (record { unit = unit_in name; cause = cause_in (first s); cost = amounts_at 0 (rest s) })))
+    None)
+    None
 
-unfoldable pub cut_in : List ℕ → script.Line
-cut_in s = cond (is_label (first s)) (cut_of (first s) (rest s)) Nothing
+unfoldable pub cut_in : List ℕ → Option script.Line
+cut_in s = cond (is_label (first s)) (cut_of (first s) (rest s)) None
 
 -- a line is `P` alone, or begins with `R`, `J` or `C`
-unfoldable pub line : List ℕ → script.Line
+unfoldable pub line : List ℕ → Option script.Line
 line s =
-    cond (same s (80 ∷ [])) Report
+    cond (same s (80 ∷ [])) (Some Report)
     (cond (same (first s) (82 ∷ [])) (start_in (rest s))
     (cond (same (first s) (74 ∷ [])) (judge_in (rest s))
-    (cond (same (first s) (67 ∷ [])) (cut_in (rest s)) Nothing)))
+    (cond (same (first s) (67 ∷ [])) (cut_in (rest s)) None)))
 
 -- the texts with one space between each two
 unfoldable pub spaced : List ℕ → List (List ℕ) → List ℕ
@@ -88,7 +88,6 @@ text_of (Start l) =
 text_of (Judge l) = spaced (74 ∷ []) (label l.unit ∷ decimal l.cost.receptions ∷ decimal l.cost.bytes ∷ decimal l.stamp ∷ [])
 text_of (Cut l) = spaced (67 ∷ []) (label l.unit ∷ cause_name l.cause ∷ decimal l.cost.receptions ∷ decimal l.cost.bytes ∷ [])
 text_of Report = 80 ∷ []
-text_of Nothing = []
 
 -- the numbers of a call are of their types
 pub record Amount (a : Amounts) : Type 0 where
@@ -114,9 +113,8 @@ Written (Start l) = StartFits l
 Written (Judge l) = JudgeFits l
 Written (Cut l) = CutFits l
 Written Report = Unit {0}
-Written Nothing = ⊥
 
 -- r says exactly what s is: the call that is written so, where there is one
-pub record Exact (s : List ℕ) (r : script.Line) : Type 0 where
-  pub taken : (r ≡ Nothing → ⊥) → text_of r ≡ s
-  pub every : (l : script.Line) → Written l → text_of l ≡ s → r ≡ l
+pub record Exact (s : List ℕ) (r : Option script.Line) : Type 0 where
+  pub taken : (l : script.Line) → r ≡ Some l → text_of l ≡ s
+  pub every : (l : script.Line) → Written l → text_of l ≡ s → r ≡ Some l

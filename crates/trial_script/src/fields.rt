@@ -1,5 +1,5 @@
 // The fields of a line and the numbers in them.
-ghost use Rattle.std.specs.Prelude.{◌≡◌, ◌-◌, take};
+ghost use Rattle.std.specs.Prelude.{◌≡◌, ◌-◌, ◌<◌, ◌==◌, MatchOption, false, position, take, true};
 ghost use Rattle.io.specs.Counts.{IsPrefixLen};
 ghost use Rattle.text.specs.Number.{decimal};
 ghost use Rattle.trial_script.specs.Fields as fields;
@@ -7,74 +7,57 @@ ghost use Rattle.trial_script.specs.Fields as fields;
 // The longest decimal of a u64.
 const DIGITS: usize = 20;
 
-const SPACE: u8 = 32;
+const SPACE: u8 = b' ';
 
-// How many bytes stand before the first space.
-fn width(s: &[u8]) -> usize
-    ensures value { result ≡ fields.width s.now }
-    ensures prefix_len { IsPrefixLen result s.now }
+// Where the first space stands.
+fn space_at(s: &[u8]) -> Option<usize>
+    ensures { result ≡ position (λ x. x == 32) s.now }
 {
-    let mut i = 0;
-    while i < s.len() {
-        if s[i] == SPACE {
-            return i;
-        }
-        i += 1;
+    s.iter().position(|x| *x == SPACE)
+}
+
+// The first field, and what stands behind the space after it; nothing where there is no space.
+pub fn split(s: &[u8]) -> (&[u8], &[u8])
+    ensures first { result.0.now ≡ fields.first s.now }
+    ensures rest { result.1.now ≡ fields.rest s.now }
+{
+    match space_at(s) {
+        Some(i) => (&s[..i], &s[i + 1..]),
+        None => (s, &[]),
     }
-    i
 }
 
 // The first field.
 pub fn first(s: &[u8]) -> &[u8]
     ensures { result.now ≡ fields.first s.now }
 {
-    let n = width(s);
-    &s[..n]
+    split(s).0
 }
 
 // What stands behind the first field and the space after it.
 pub fn rest(s: &[u8]) -> &[u8]
     ensures { result.now ≡ fields.rest s.now }
 {
-    let n = width(s);
-    if n < s.len() {
-        let from = n + 1;
-        return &s[from..];
-    }
-    &s[n..]
-}
-
-fn digit(x: u8) -> u64
-    ensures { result ≡ x - 48 }
-{
-    if x < 48 {
-        return 0;
-    }
-    (x - 48) as u64
+    split(s).1
 }
 
 // A number and one digit more; the number itself where it would not fit.
+#[tactic(auto, unfolding(crate::specs::Fields::grown))]
 fn grown(n: u64, x: u8) -> u64
     ensures { result ≡ fields.grown n x }
 {
-    let d = digit(x);
-    if n <= (u64::MAX - d) / 10 {
-        return n * 10 + d;
-    }
-    n
+    let d = u64::from(x.saturating_sub(b'0'));
+    n.checked_mul(10)
+        .and_then(|m| m.checked_add(d))
+        .unwrap_or(n)
 }
 
 // The number that the bytes make, read as digits without asking whether they are.
-pub fn number_in(s: &[u8]) -> u64
+#[tactic(auto, using(crate::proofs::Walking::number_fold))]
+fn number_in(s: &[u8]) -> u64
     ensures { result ≡ fields.number_in s.now }
 {
-    let mut n = 0;
-    let mut i = 0;
-    while i < s.len() {
-        n = grown(n, s[i]);
-        i += 1;
-    }
-    n
+    s.iter().fold(0, |n, x| grown(n, *x))
 }
 
 // The decimal of n at the front of out; the answer is its length.
@@ -85,35 +68,31 @@ fn decimal_text(n: u64, out: &mut [u8; DIGITS]) -> usize
     text::put_decimal(out, 0, n)
 }
 
-// Whether s is a number: the decimal of a u64.
-pub fn is_number(s: &[u8]) -> bool
-    ensures { result ≡ fields.is_number s.now }
+// The number whose decimal s is.
+#[tactic(auto, using(crate::proofs::Walking::number_is))]
+fn number(s: &[u8]) -> Option<u64>
+    ensures { MatchOption result (fields.is_number s.now ≡ false) (λ n. (fields.is_number s.now ≡ true) × (n ≡ fields.number_in s.now)) }
 {
+    let n = number_in(s);
     let mut own = [0u8; DIGITS];
-    let n = decimal_text(number_in(s), &mut own);
-    let printed = &own[..n];
-    text::same(printed, s)
+    let k = decimal_text(n, &mut own);
+    (&own[..k] == s).then_some(n)
 }
 
-// Whether s is a number and `more` numbers behind it.
-pub fn are_numbers(s: &[u8], more: usize) -> bool
-    ensures { result ≡ fields.are_numbers more s.now }
+// The N numbers that s is, with one space between each two.
+pub fn numbers<const N: usize>(s: &[u8]) -> Option<[u64; N]>
+    requires { 0 < N }
+    ensures { MatchOption result (fields.are_numbers (N - 1) s.now ≡ false)
+        (λ xs. (fields.are_numbers (N - 1) s.now ≡ true) × (xs ≡ fields.numbers N s.now)) }
 {
-    if more == 0 {
-        return is_number(s);
+    let last = N - 1;
+    let mut numbers = [0; N];
+    let mut left = s;
+    for k in 0..last {
+        let (field, behind) = split(left);
+        numbers[k] = number(field)?;
+        left = behind;
     }
-    if is_number(first(s)) {
-        return are_numbers(rest(s), more - 1);
-    }
-    false
-}
-
-// The number in the field of index k.
-pub fn number_at(s: &[u8], k: usize) -> u64
-    ensures { result ≡ fields.number_at k s.now }
-{
-    if k == 0 {
-        return number_in(first(s));
-    }
-    number_at(rest(s), k - 1)
+    numbers[last] = number(left)?;
+    Some(numbers)
 }

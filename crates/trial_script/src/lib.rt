@@ -5,11 +5,13 @@ mod answers;
 mod fields;
 mod lines;
 
-ghost use Rattle.std.specs.Prelude.{◌≡◌, ◌<◌};
+ghost use Rattle.std.specs.Prelude.{◌≡◌, ◌∷◌, [], MatchOption, false, true};
 ghost use Rattle.trial_script.specs.Script as script;
 
 pub use answers::{put_answer, put_begin, put_done, put_refused};
-pub use fields::{are_numbers, first, number_at, rest};
+use fields::split;
+pub use fields::{first, numbers, rest};
+use flow::DIMS;
 use head::Cause;
 pub use lines::{FEED, LINE, front, keep};
 use sender::Unit;
@@ -22,6 +24,14 @@ pub const LINE_MOST: usize = 200;
 pub struct Amounts {
     pub receptions: u64,
     pub bytes: u64,
+}
+
+impl From<Amounts> for [u64; DIMS] {
+    ghost from_gives = { λ a dims. dims ≡ a.receptions ∷ a.bytes ∷ [] };
+
+    fn from(a: Amounts) -> [u64; DIMS] {
+        [a.receptions, a.bytes]
+    }
 }
 
 #[derive(Clone, Copy)]
@@ -44,126 +54,87 @@ pub struct CutLine {
     pub cost: Amounts,
 }
 
-// The call that a line is; Nothing where it has no form.
+// The call that a line is.
 #[derive(Clone, Copy)]
 pub enum Line {
     Start(StartLine),
     Judge(JudgeLine),
     Cut(CutLine),
     Report,
-    Nothing,
 }
 
-fn cause_in(s: &[u8]) -> Cause
-    ensures { result ≡ script.cause_in s.now }
+// The cause that s names.
+#[tactic(auto, unfolding(crate::specs::Script::is_cause, crate::specs::Script::cause_in, crate::specs::Script::cause_name))]
+fn cause_in(s: &[u8]) -> Option<Cause>
+    ensures { MatchOption result (script.is_cause s.now ≡ false) (λ cause. (script.is_cause s.now ≡ true) × (cause ≡ script.cause_in s.now)) }
 {
+    // A `match` on the three texts is tried byte by byte, in thirty-eight cases, and the proof does not close.
     if text::same(s, b"receiver-ceiling") {
-        return Cause::ReceiverCeiling;
-    }
-    if text::same(s, b"over-share") {
-        return Cause::OverShare;
-    }
-    Cause::RelayRate
-}
-
-fn is_cause(s: &[u8]) -> bool
-    ensures { result ≡ script.is_cause s.now }
-{
-    if text::same(s, b"receiver-ceiling") {
-        return true;
-    }
-    if text::same(s, b"over-share") {
-        return true;
-    }
-    text::same(s, b"relay-rate")
-}
-
-fn amounts_at(s: &[u8], k: usize) -> Amounts
-    requires { k < 8 }
-    ensures { result ≡ script.amounts_at k s.now }
-{
-    Amounts {
-        receptions: number_at(s, k),
-        bytes: number_at(s, k + 1),
+        Some(Cause::ReceiverCeiling)
+    } else if text::same(s, b"over-share") {
+        Some(Cause::OverShare)
+    } else if text::same(s, b"relay-rate") {
+        Some(Cause::RelayRate)
+    } else {
+        None
     }
 }
 
 // What stands behind `R `.
-fn start_in(s: &[u8]) -> Line
+#[tactic(auto, unfolding(crate::specs::Script::start_in, crate::specs::Script::amounts_at, crate::specs::Fields::number_at, crate::specs::Fields::numbers))]
+fn start_in(s: &[u8]) -> Option<Line>
     ensures { result ≡ script.start_in s.now }
 {
-    if are_numbers(s, 3) {
-        let rate = amounts_at(s, 0);
-        let ceiling = amounts_at(s, 2);
-        return Line::Start(StartLine { rate, ceiling });
-    }
-    Line::Nothing
+    let [rate_receptions, rate_bytes, receptions, bytes] = numbers::<4>(s)?;
+    let rate = Amounts {
+        receptions: rate_receptions,
+        bytes: rate_bytes,
+    };
+    let ceiling = Amounts { receptions, bytes };
+    Some(Line::Start(StartLine { rate, ceiling }))
 }
 
 // What stands behind `J `.
-fn judge_in(s: &[u8]) -> Line
+#[tactic(auto, using(crate::proofs::Reading::label_some, crate::proofs::Reading::label_none), unfolding(crate::specs::Script::judge_in, crate::specs::Script::amounts_at, crate::specs::Fields::number_at, crate::specs::Fields::numbers))]
+fn judge_in(s: &[u8]) -> Option<Line>
     ensures { result ≡ script.judge_in s.now }
 {
-    let name = first(s);
-    if label_parse::is_label(name) {
-        let numbers = rest(s);
-        if are_numbers(numbers, 2) {
-            let unit = label_parse::unit_in(name);
-            let cost = amounts_at(numbers, 0);
-            let stamp = number_at(numbers, 2);
-            return Line::Judge(JudgeLine { unit, cost, stamp });
-        }
-        return Line::Nothing;
-    }
-    Line::Nothing
-}
-
-// What stands behind `C ` and the unit that is named there.
-fn cut_of(name: &[u8], s: &[u8]) -> Line
-    ensures { result ≡ script.cut_of name.now s.now }
-{
-    let word = first(s);
-    if is_cause(word) {
-        let numbers = rest(s);
-        if are_numbers(numbers, 1) {
-            let unit = label_parse::unit_in(name);
-            let cause = cause_in(word);
-            let cost = amounts_at(numbers, 0);
-            return Line::Cut(CutLine { unit, cause, cost });
-        }
-        return Line::Nothing;
-    }
-    Line::Nothing
+    let (name, amounts) = split(s);
+    let unit = label_parse::parse(name)?;
+    let [receptions, bytes, stamp] = numbers::<3>(amounts)?;
+    let cost = Amounts { receptions, bytes };
+    Some(Line::Judge(JudgeLine { unit, cost, stamp }))
 }
 
 // What stands behind `C `.
-fn cut_in(s: &[u8]) -> Line
+#[tactic(auto, using(crate::proofs::Reading::label_some, crate::proofs::Reading::label_none), unfolding(crate::specs::Script::cut_in, crate::specs::Script::cut_of, crate::specs::Script::amounts_at, crate::specs::Fields::number_at, crate::specs::Fields::numbers))]
+fn cut_in(s: &[u8]) -> Option<Line>
     ensures { result ≡ script.cut_in s.now }
 {
-    let name = first(s);
-    if label_parse::is_label(name) {
-        return cut_of(name, rest(s));
-    }
-    Line::Nothing
+    let (name, behind) = split(s);
+    let unit = label_parse::parse(name)?;
+    let (word, amounts) = split(behind);
+    let cause = cause_in(word)?;
+    let [receptions, bytes] = numbers::<2>(amounts)?;
+    let cost = Amounts { receptions, bytes };
+    Some(Line::Cut(CutLine { unit, cause, cost }))
 }
 
 // The call that the line s is.
-pub fn read_line(s: &[u8]) -> Line
+#[tactic(auto, using(crate::proofs::Taking::exactly, crate::proofs::Taking::one_byte), unfolding(crate::specs::Script::line))]
+pub fn read_line(s: &[u8]) -> Option<Line>
     ensures value { result ≡ script.line s.now }
     ensures exact { script.Exact s.now result }
 {
+    // What a `match` on s finds is lost to the proof at the next call.
     if text::same(s, b"P") {
-        return Line::Report;
+        return Some(Line::Report);
     }
-    let kind = first(s);
-    if text::same(kind, b"R") {
-        return start_in(rest(s));
+    let (kind, behind) = split(s);
+    match kind {
+        b"R" => start_in(behind),
+        b"J" => judge_in(behind),
+        b"C" => cut_in(behind),
+        _ => None,
     }
-    if text::same(kind, b"J") {
-        return judge_in(rest(s));
-    }
-    if text::same(kind, b"C") {
-        return cut_in(rest(s));
-    }
-    Line::Nothing
 }

@@ -7,16 +7,13 @@ use crate::LINE_MOST;
 pub const LINE: usize = LINE_MOST + 1;
 
 // The byte that ends a line.
-pub const FEED: u8 = 10;
+pub const FEED: u8 = b'\n';
 
 // The first n bytes of s; all of s where it has fewer.
 pub fn front(s: &[u8], n: usize) -> &[u8]
     ensures { result.now ≡ take n s.now }
 {
-    if s.len() < n {
-        return s;
-    }
-    &s[..n]
+    s.get(..n).unwrap_or(s)
 }
 
 // A byte more of the line of which n bytes are kept; the answer is how many are kept then.

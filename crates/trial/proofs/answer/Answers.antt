@@ -14,41 +14,41 @@ returns-then-line-gt-LINE_MOST c =
     let s = state c.args.t m c.args.out.now in
     answer_long s c.args.line.now _ (omega arith) (c.refused.ensures m)
 
-pub returns-in-Start : goal.returns-in-Start
+pub returns-in-Some-Start : goal.returns-in-Some-Start
 unfolding call
-returns-in-Start c =
+returns-in-Some-Start c =
     let m = memory (rows c.args.tags.now c.args.units.now c.args.uses.now) (hist c.args.counts.now c.args.sums.now) c.args.counted.now in
     let s = state c.args.t m c.args.out.now in
-    answer_line s c.args.line.now _ _ (omega (arith, c.if-line-gt-LINE_MOST.false)) c.read_line-l.ensures.value (c.start.ensures ∙ ap (call s) (sym c.in-Start.is))
+    answer_line s c.args.line.now _ _ (omega (arith, c.if-line-gt-LINE_MOST.false)) c.read_line.ensures.value (c.start.ensures ∙ ap (call s) (sym (rw c.in-Some-Start.field-0-is at c.in-Some-Start.is)))
 
-pub returns-in-Judge : goal.returns-in-Judge
+pub returns-in-Some-Judge : goal.returns-in-Some-Judge
 unfolding call
-returns-in-Judge c =
+returns-in-Some-Judge c =
     let m = memory (rows c.args.tags.now c.args.units.now c.args.uses.now) (hist c.args.counts.now c.args.sums.now) c.args.counted.now in
     let s = state c.args.t m c.args.out.now in
-    answer_line s c.args.line.now _ _ (omega (arith, c.if-line-gt-LINE_MOST.false)) c.read_line-l.ensures.value (c.judge.ensures ∙ ap (call s) (sym c.in-Judge.is))
+    answer_line s c.args.line.now _ _ (omega (arith, c.if-line-gt-LINE_MOST.false)) c.read_line.ensures.value (c.judge.ensures ∙ ap (call s) (sym (rw c.in-Some-Judge.field-0-is at c.in-Some-Judge.is)))
 
-pub returns-in-Cut : goal.returns-in-Cut
+pub returns-in-Some-Cut : goal.returns-in-Some-Cut
 unfolding call
-returns-in-Cut c =
+returns-in-Some-Cut c =
     let g = hist c.args.counts.now c.args.sums.now in
     let m = memory (rows c.args.tags.now c.args.units.now c.args.uses.now) g c.args.counted.now in
     let s = state c.args.t m c.args.out.now in
-    answer_line s c.args.line.now _ _ (omega (arith, c.if-line-gt-LINE_MOST.false)) c.read_line-l.ensures.value (c.cut.ensures g ∙ ap (call s) (sym c.in-Cut.is))
+    answer_line s c.args.line.now _ _ (omega (arith, c.if-line-gt-LINE_MOST.false)) c.read_line.ensures.value (c.cut.ensures g ∙ ap (call s) (sym (rw c.in-Some-Cut.field-0-is at c.in-Some-Cut.is)))
 
-pub returns-in-Report : goal.returns-in-Report
+pub returns-in-Some-Report : goal.returns-in-Some-Report
 unfolding call
-returns-in-Report c =
+returns-in-Some-Report c =
     let g = hist c.args.counts.now c.args.sums.now in
     let m = memory (rows c.args.tags.now c.args.units.now c.args.uses.now) g c.args.counted.now in
     let s = state c.args.t m c.args.out.now in
-    answer_line s c.args.line.now _ _ (omega (arith, c.if-line-gt-LINE_MOST.false)) c.read_line-l.ensures.value
-    (c.report.ensures g ∙ ap (call s) (sym c.in-Report.is))
+    answer_line s c.args.line.now _ _ (omega (arith, c.if-line-gt-LINE_MOST.false)) c.read_line.ensures.value
+    (c.report.ensures g ∙ ap (call s) (sym (rw c.in-Some-Report.field-0-is at c.in-Some-Report.is)))
 
-pub returns-in-Nothing : goal.returns-in-Nothing
+pub returns-in-None : goal.returns-in-None
 unfolding call
-returns-in-Nothing c =
+returns-in-None c =
     let m = memory (rows c.args.tags.now c.args.units.now c.args.uses.now) (hist c.args.counts.now c.args.sums.now) c.args.counted.now in
     let s = state c.args.t m c.args.out.now in
-    answer_line s c.args.line.now _ _ (omega (arith, c.if-line-gt-LINE_MOST.false)) c.read_line-l.ensures.value
-    (c.refused-in-Nothing.ensures m ∙ ap (call s) (sym c.in-Nothing.is))
+    answer_line s c.args.line.now _ _ (omega (arith, c.if-line-gt-LINE_MOST.false)) c.read_line.ensures.value
+    (c.refused-in-None.ensures m ∙ ap (call s) (sym c.in-None.is))

@@ -15,5 +15,5 @@ returns-then-not-t c =
 pub returns : goal.returns
 returns c =
     λ g. cut_step (state c.args.t (memory (rows c.args.tags.now c.args.units.now c.args.uses.now) g c.args.counted.now) c.args.out.now) c.args.l
-    c.cut-c.result _ _ _ _ (not-false c.args.t.is_started c.if-not-t.false) c.of_dims.ensures c.cut-c.ensures.same_but_nan_bits
+    c.cut-c.result _ _ _ _ (not-false c.args.t.is_started c.if-not-t.false) c.into.ensures c.cut-c.ensures.same_but_nan_bits
     c.put_done-at.ensures

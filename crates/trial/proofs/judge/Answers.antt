@@ -19,5 +19,5 @@ pub returns : goal.returns
 returns c =
     judge_step (state c.args.t
     (memory (rows c.args.tags.now c.args.units.now c.args.uses.now) (hist c.args.counts.now c.args.sums.now) c.args.counted.now) c.args.out.now)
-    c.args.l c.judge-j.result _ _ _ (not-false c.args.t.is_started c.if-not-t.false) c.of_dims.ensures
+    c.args.l c.judge-j.result _ _ _ (not-false c.args.t.is_started c.if-not-t.false) c.into.ensures
     c.judge-j.ensures.same_but_nan_bits c.put_answer-at.ensures

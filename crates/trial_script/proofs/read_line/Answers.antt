@@ -1,84 +1,26 @@
--- `read_line` meets its contract: by the kind of the line.
-use mathlib.Core.Path.{sym}
+-- `read_line` meets its contract: what is the definition's call is exactly the call that the line is.
+use native.Mathlib.Omega.{arith}
+use Rattle.std.proofs.lemmas.Grind.{common_steps}
 use Rattle.trial_script.specs.Script.{line}
-use Rattle.trial_script.proofs.Taking.{exactly}
+use Rattle.trial_script.proofs.Taking.{exactly, one_byte}
 use Rattle.trial_script.proofs.read_line.Goals as goal
 
-pub returns-then-same : goal.returns-then-same
+pub returns-in-R-clause-exact : goal.returns-in-R-clause-exact
 unfolding line
-returns-then-same c = let all_of_them = exactly c.args.s.now _ (simp (sym c.same.ensures, c.if-same.true)) in record {
-  value = all_of_them.0;
-  exact = all_of_them.1;
-}
+returns-in-R-clause-exact c = exactly c.args.s.now _ (grind (arith, common_steps, one_byte))
 
-pub returns-then-same-2 : goal.returns-then-same-2
+pub returns-in-J-clause-exact : goal.returns-in-J-clause-exact
 unfolding line
-returns-then-same-2 c = let all_of_them = exactly c.args.s.now _
-    (simp (
-      sym c.same.ensures,
-      c.if-same.false,
-      sym c.first-kind.ensures,
-      sym c.same-2.ensures,
-      c.if-same-2.true,
-      sym c.rest.ensures,
-      sym c.start_in.ensures,
-    )) in record {
-      value = all_of_them.0;
-      exact = all_of_them.1;
-    }
+returns-in-J-clause-exact c = exactly c.args.s.now _ (grind (arith, common_steps, one_byte))
 
-pub returns-then-same-3 : goal.returns-then-same-3
+pub returns-in-C-clause-exact : goal.returns-in-C-clause-exact
 unfolding line
-returns-then-same-3 c = let all_of_them = exactly c.args.s.now _
-    (simp (
-      sym c.same.ensures,
-      c.if-same.false,
-      sym c.first-kind.ensures,
-      sym c.same-2.ensures,
-      c.if-same-2.false,
-      sym c.same-3.ensures,
-      c.if-same-3.true,
-      sym c.rest-then-same-3.ensures,
-      sym c.judge_in.ensures,
-    )) in record {
-      value = all_of_them.0;
-      exact = all_of_them.1;
-    }
+returns-in-C-clause-exact c = exactly c.args.s.now _ (grind (arith, common_steps, one_byte))
 
-pub returns-then-same-4 : goal.returns-then-same-4
+pub returns-in_default-clause-exact : goal.returns-in_default-clause-exact
 unfolding line
-returns-then-same-4 c = let all_of_them = exactly c.args.s.now _
-    (simp (
-      sym c.same.ensures,
-      c.if-same.false,
-      sym c.first-kind.ensures,
-      sym c.same-2.ensures,
-      c.if-same-2.false,
-      sym c.same-3.ensures,
-      c.if-same-3.false,
-      sym c.same-4.ensures,
-      c.if-same-4.true,
-      sym c.rest-then-same-4.ensures,
-      sym c.cut_in.ensures,
-    )) in record {
-      value = all_of_them.0;
-      exact = all_of_them.1;
-    }
+returns-in_default-clause-exact c = exactly c.args.s.now _ (grind (arith, common_steps, one_byte))
 
-pub returns : goal.returns
+pub returns-in_default-3-clause-exact : goal.returns-in_default-3-clause-exact
 unfolding line
-returns c = let all_of_them = exactly c.args.s.now _
-    (simp (
-      sym c.same.ensures,
-      c.if-same.false,
-      sym c.first-kind.ensures,
-      sym c.same-2.ensures,
-      c.if-same-2.false,
-      sym c.same-3.ensures,
-      c.if-same-3.false,
-      sym c.same-4.ensures,
-      c.if-same-4.false,
-    )) in record {
-      value = all_of_them.0;
-      exact = all_of_them.1;
-    }
+returns-in_default-3-clause-exact c = exactly c.args.s.now _ (grind (arith, common_steps, one_byte))
