@@ -2,7 +2,7 @@
 use Rattle.std.proofs.Common.{◌≡◌, refl, sym, ap, ◌∙◌, ℕ, zero, suc, ◌≤◌, arith, Bool, cond, eqb, Result, Ok, Err, ne_eqb, eq-eqb}
 use Rattle.head.specs.declared.Refusal.{Refusal}
 use Rattle.head.specs.declared.Refusal.TheVariants.{Rates, Sizes, Head, Memory, Cost, Stamp, Buffer}
-use Rattle.head.specs.Answers.{number_of, refusal_of, answer_number, Inverse}
+use Rattle.head.specs.Answers.{number_of, refusal_of, refused, answer_number, Inverse}
 
 pub refusal_back : (r : Refusal) → refusal_of (number_of r) ≡ r
 unfolding number_of refusal_of
@@ -39,6 +39,17 @@ number_some Memory = omega arith
 number_some Cost = omega arith
 number_some Stamp = omega arith
 number_some Buffer = omega arith
+
+-- the number of an answer that is refused by n; of one that is, or is refused, by n
+pub refused_number : (A : Type 0) (n : ℕ) → 1 ≤ n → n ≤ 7 → answer_number {A = A} (refused n) ≡ n
+unfolding answer_number
+refused_number A n p q = number_there n p q
+
+pub choice_number : {A : Type 0} (x : A) (n : ℕ) → n ≤ 7 → answer_number (cond (eqb n 0) (Ok x) (refused n)) ≡ n
+unfolding answer_number
+choice_number {A = A} x zero q = refl
+choice_number {A = A} x (suc n) q =
+    ap (λ (b : Bool). answer_number (cond b (Ok x) (refused {A = A} (suc n)))) (ne_eqb (suc n) 0 (λ z. absurd (omega (arith, z)))) ∙ refused_number A (suc n) (omega arith) q
 
 -- ---- a choice by the number n of an answer
 pub refused_is : {A X : Type 0} (f : Refusal → X) (x : X) (a : Result A Refusal) (r : Refusal) (n : ℕ) → a ≡ Err r → answer_number a ≡ n
