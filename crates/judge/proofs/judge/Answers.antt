@@ -21,6 +21,7 @@ returns-in-Err-clause-same_but_nan_bits c =
     _ c.judge_asked.result c.in-Err.refusal _ c.in-Err.is c.judge_asked.ensures
 
 pub returns-in-Err-clause-answer_value : goal.returns-in-Err-clause-answer_value
+unfolding answer_number
 returns-in-Err-clause-answer_value c = ap answer_number (sym c.in-Err.is) ∙ c.judge_asked.ensures
 
 pub returns-in-Err-clause-same_but_nan_bits_2 : goal.returns-in-Err-clause-same_but_nan_bits_2
