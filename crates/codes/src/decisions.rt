@@ -41,7 +41,13 @@ fn by_side(side: Side, within: u64, over: u64) -> u64
     }
 }
 
-fn coded(answer: Result<Verdict, Refusal>, rule: u64, dim: u64, want_or_mark: f64, part: f64) -> Decision
+fn coded(
+    answer: Result<Verdict, Refusal>,
+    rule: u64,
+    dim: u64,
+    want_or_mark: f64,
+    part: f64,
+) -> Decision
     ensures { result ≡ decisions.coded answer rule dim want_or_mark part }
 {
     Decision {

@@ -194,9 +194,7 @@ fn costs_held(xs: [u64; DIMS]) -> bool
 fn tables_whole(remaining: usize, next: usize) -> bool
     ensures { result ≡ asked.tables_whole remaining next }
 {
-    remaining <= TABLES
-        && next <= TABLES
-        && (remaining + next == TABLES || remaining + next == 0)
+    remaining <= TABLES && next <= TABLES && (remaining + next == TABLES || remaining + next == 0)
 }
 
 #[tactic(auto, unfolding(crate::specs::Questions::rooms_whole))]
