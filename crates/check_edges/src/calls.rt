@@ -20,9 +20,7 @@ fn start(
     let rate = check_steps::amounts(row);
     let none = [0; DIMS];
     let s = head::start(head, tags, units, uses, counts, sums, counted, rate, none);
-    let answer = s.answer;
-    let now = s.head;
-    check_steps::after(codes::start_number(answer), now)
+    check_steps::after(codes::answer_number(s.answer), s.head)
 }
 
 // A judgement, or a start.
@@ -46,9 +44,7 @@ fn judge(
     let j = judge::judge(
         head, tags, units, uses, counts, sums, counted, who, cost, stamp,
     );
-    let answer = j.answer;
-    let now = j.head;
-    check_steps::after(check_steps::judge_number(answer), now)
+    check_steps::after(check_steps::judge_number(j.answer), j.head)
 }
 
 fn cut(
@@ -63,9 +59,7 @@ fn cut(
     let cost = check_steps::amounts(row);
     let why = Cause::ReceiverCeiling;
     let d = cut::cut(head, tags, units, uses, counted, who, why, cost);
-    let answer = d.answer;
-    let now = d.head;
-    check_steps::after(codes::cut_number(answer), now)
+    check_steps::after(codes::answer_number(d.answer), d.head)
 }
 
 // The report, as the front part of out and as written by the call under it, and the call beside it. The number of a report
@@ -80,7 +74,8 @@ fn report(
     counted: &[SourceRow],
     out: &mut [u8],
 ) -> io::Result<Tried> {
-    let no = report::report_refusal(head, tags, units, uses, counted, out);
+    let refusal = report::report_refusal(head, tags, units, uses, counted, out);
+    let no = codes::answer_number(refusal);
     if call == 6 {
         return Ok(check_steps::after(no, head));
     }

@@ -5,23 +5,24 @@ ghost use Rattle.codes.specs.Decisions as decisions;
 use crate::{
     DIM_BYTES, DIM_NONE, DIM_RECEPTIONS, Decision, RULE_ADMITTED, RULE_CREDIT_OVER,
     RULE_CREDIT_WITHIN, RULE_NONE, RULE_RESERVE, RULE_TOKENS_OVER, RULE_TOKENS_WITHIN,
-    VERDICT_ADMITTED, VERDICT_NONE, VERDICT_OVER_SHARE, VERDICT_RELAY_RATE, judge_number,
+    VERDICT_ADMITTED, VERDICT_NONE, VERDICT_OVER_SHARE, VERDICT_RELAY_RATE, answer_number,
 };
 use flow::Dim;
-use head::{Answer, Ruling};
-use verdict::{Rule, Side};
+use head::Refusal;
+use verdict::{Rule, Side, Verdict};
 
-fn verdict_code(answer: Answer) -> u64
+fn verdict_code(answer: Result<Verdict, Refusal>) -> u64
     ensures { result ≡ decisions.verdict_code answer }
 {
     match answer {
-        Answer::Admitted => VERDICT_ADMITTED,
-        Answer::OverShare => VERDICT_OVER_SHARE,
-        Answer::RelayRate => VERDICT_RELAY_RATE,
-        Answer::Refused(_) => VERDICT_NONE,
+        Ok(Verdict::Admitted) => VERDICT_ADMITTED,
+        Ok(Verdict::OverShare) => VERDICT_OVER_SHARE,
+        Ok(Verdict::RelayRate) => VERDICT_RELAY_RATE,
+        Err(_) => VERDICT_NONE,
     }
 }
 
+#[tactic(auto, unfolding(flow::specs::Flow::dim_of))]
 fn dim_code(dim: Dim) -> u64
     ensures { result ≡ decisions.dim_code dim }
 {
@@ -40,11 +41,17 @@ fn by_side(side: Side, within: u64, over: u64) -> u64
     }
 }
 
-fn coded(answer: Answer, rule: u64, dim: u64, want_or_mark: f64, part: f64) -> Decision
+fn coded(
+    answer: Result<Verdict, Refusal>,
+    rule: u64,
+    dim: u64,
+    want_or_mark: f64,
+    part: f64,
+) -> Decision
     ensures { result ≡ decisions.coded answer rule dim want_or_mark part }
 {
     Decision {
-        refusal: judge_number(answer),
+        refusal: answer_number(answer),
         verdict: verdict_code(answer),
         rule,
         dim,
@@ -53,7 +60,8 @@ fn coded(answer: Answer, rule: u64, dim: u64, want_or_mark: f64, part: f64) -> D
     }
 }
 
-fn ruled(answer: Answer, rule: Rule) -> Decision
+#[tactic(auto, unfolding(crate::specs::Decisions::ruled))]
+fn ruled(answer: Result<Verdict, Refusal>, rule: Rule) -> Decision
     ensures { result ≡ decisions.ruled answer rule }
 {
     match rule {
@@ -70,11 +78,12 @@ fn ruled(answer: Answer, rule: Rule) -> Decision
     }
 }
 
-pub fn decision_of(answer: Answer, ruling: Ruling) -> Decision
+#[tactic(auto, unfolding(crate::specs::Decisions::decision_of))]
+pub fn decision_of(answer: Result<Verdict, Refusal>, ruling: Option<Rule>) -> Decision
     ensures { result ≡ decisions.decision_of answer ruling }
 {
     match ruling {
-        Ruling::Refused => coded(answer, RULE_NONE, DIM_NONE, 0.0, 0.0),
-        Ruling::Ruled(rule) => ruled(answer, rule),
+        None => coded(answer, RULE_NONE, DIM_NONE, 0.0, 0.0),
+        Some(rule) => ruled(answer, rule),
     }
 }

@@ -5,6 +5,7 @@ ghost use Rattle.codes.specs.Numbers as numbers;
 use flow::Dim;
 use head::Cause;
 
+#[tactic(auto, unfolding(crate::specs::Numbers::cause_of))]
 pub fn cause_of(n: u64) -> Cause
     ensures { result ≡ numbers.cause_of n }
 {
@@ -17,6 +18,7 @@ pub fn cause_of(n: u64) -> Cause
     Cause::RelayRate
 }
 
+#[tactic(auto, unfolding(crate::specs::Numbers::dim_of, flow::specs::Flow::dim_at))]
 pub fn dim_of(n: u64) -> Dim
     ensures { result ≡ numbers.dim_of n }
 {

@@ -6,10 +6,7 @@ mod decisions;
 mod given;
 mod reads;
 
-pub use answers::{
-    bounded_number, cut_number, judge_number, level_number, rate_number, reading_number,
-    report_number, start_number,
-};
+pub use answers::answer_number;
 pub use decisions::decision_of;
 pub use given::{cause_of, dim_of};
 pub use reads::{read_bounded, read_count, read_level, read_rate, read_written};
@@ -71,4 +68,4 @@ pub const DIM_RECEPTIONS: u64 = 0;
 
 pub const DIM_BYTES: u64 = 1;
 
-pub const DIM_NONE: u64 = 18446744073709551615;
+pub const DIM_NONE: u64 = u64::MAX;

@@ -3,7 +3,7 @@ ghost use Rattle.std.specs.Prelude.{◌≡◌};
 ghost use Rattle.codes.specs.Numbers as numbers;
 
 use crate::{Count, Level};
-use head::{BoundedRead, LevelRead, RateRead, Reading, Written};
+use head::Refusal;
 
 fn count(refusal: u64, value: u64) -> Count
     ensures { result ≡ numbers.count refusal value }
@@ -11,55 +11,57 @@ fn count(refusal: u64, value: u64) -> Count
     Count { refusal, value }
 }
 
-pub fn read_count(answer: Reading) -> Count
+#[tactic(auto, unfolding(crate::specs::Numbers::read_count))]
+pub fn read_count(answer: Result<u64, Refusal>) -> Count
     ensures { result ≡ numbers.read_count answer }
 {
     match answer {
-        Reading::Whole(x) => count(0, x),
-        Reading::Refused(n) => count(n, 0),
+        Ok(x) => count(0, x),
+        Err(refusal) => count(refusal.into(), 0),
     }
 }
 
-pub fn read_level(answer: LevelRead) -> Level
+#[tactic(auto, unfolding(crate::specs::Numbers::read_level))]
+pub fn read_level(answer: Result<f64, Refusal>) -> Level
     ensures { result ≡ numbers.read_level answer }
 {
     match answer {
-        LevelRead::Level(x) => Level {
-            refusal: 0,
-            value: x,
-        },
-        LevelRead::Refused(n) => Level {
-            refusal: n,
+        Ok(value) => Level { refusal: 0, value },
+        Err(refusal) => Level {
+            refusal: refusal.into(),
             value: 0.0,
         },
     }
 }
 
-pub fn read_rate(answer: RateRead) -> Count
+#[tactic(auto, unfolding(crate::specs::Numbers::read_rate))]
+pub fn read_rate(answer: Result<Option<u64>, Refusal>) -> Count
     ensures { result ≡ numbers.read_rate answer }
 {
     match answer {
-        RateRead::Unbounded => count(0, flow::UNBOUNDED),
-        RateRead::PerSecond(x) => count(0, x),
-        RateRead::Refused(n) => count(n, 0),
+        Ok(None) => count(0, flow::UNBOUNDED),
+        Ok(Some(x)) => count(0, x),
+        Err(refusal) => count(refusal.into(), 0),
     }
 }
 
-pub fn read_bounded(answer: BoundedRead) -> Count
+#[tactic(auto, unfolding(crate::specs::Numbers::read_bounded))]
+pub fn read_bounded(answer: Result<bool, Refusal>) -> Count
     ensures { result ≡ numbers.read_bounded answer }
 {
     match answer {
-        BoundedRead::Bounded => count(0, 1),
-        BoundedRead::Unbounded => count(0, 0),
-        BoundedRead::Refused(n) => count(n, 0),
+        Ok(true) => count(0, 1),
+        Ok(false) => count(0, 0),
+        Err(refusal) => count(refusal.into(), 0),
     }
 }
 
-pub fn read_written(answer: Written) -> Count
+#[tactic(auto, unfolding(crate::specs::Numbers::read_written))]
+pub fn read_written(answer: Result<usize, Refusal>) -> Count
     ensures { result ≡ numbers.read_written answer }
 {
     match answer {
-        Written::Bytes(n) => count(0, n as u64),
-        Written::Refused(n) => count(n, 0),
+        Ok(n) => count(0, n as u64),
+        Err(refusal) => count(refusal.into(), 0),
     }
 }

@@ -1,5 +1,5 @@
 -- A cut made elsewhere: counted, and handed back where it was for the receiver's ceiling. No refill, fade, clock or scan. Definitions only.
-use Rattle.std.specs.Prelude.{ℕ, Bool, false, cond, List, eqb, length, get_or, Float}
+use Rattle.std.specs.Prelude.{ℕ, Bool, false, cond, List, eqb, length, get_or, Float, ⊤, Result, Ok}
 use Rattle.ieee.specs.Doubles.{◌⊖◌, nothing}
 use Rattle.ieee.specs.Extremes.{most}
 use Rattle.flow.specs.Flow as flow
@@ -11,8 +11,8 @@ use Rattle.store.specs.Store.{Rows, rows}
 use Rattle.head.specs.declared.Flow.{Flow}
 use Rattle.head.specs.declared.Shedder.{Shedder}
 use Rattle.head.specs.declared.Cause.{Cause}
-use Rattle.head.specs.declared.Done.{Done}
-use Rattle.head.specs.declared.Done.TheVariants as done
+use Rattle.head.specs.declared.Refusal.{Refusal}
+use Rattle.head.specs.Answers.{refused}
 use Rattle.cut.specs.declared.Cutting.{Cutting}
 use Rattle.head.specs.Questions.{is_unbounded, cut_asked}
 use Rattle.head.specs.Readings.{index_of}
@@ -52,7 +52,7 @@ handed_back s u cost = handed_at s.head cost (entry s.rows s.head.tracked s.head
 
 -- an answer, the head, the unit records and the counted records
 pub record Cut : Type 0 where
-  pub answer : Done
+  pub answer : Result ⊤ Refusal
   pub head : Shedder
   pub rows : Rows
   pub counted : List (List ℕ)
@@ -60,12 +60,12 @@ pub record Cut : Type 0 where
 abbrev pub cutting : Cutting → Rows → List (List ℕ) → Cut
 cutting c m k = record { answer = c.answer; head = c.head; rows = m; counted = k }
 
-abbrev pub cut_ends : Done → Shedder → Rows → List (List ℕ) → Cut
+abbrev pub cut_ends : Result ⊤ Refusal → Shedder → Rows → List (List ℕ) → Cut
 cut_ends a h m k = record { answer = a; head = h; rows = m; counted = k }
 
 -- an answer, the head, the tags of all records and the counted records
 pub record Noted : Type 0 where
-  pub answer : Done
+  pub answer : Result ⊤ Refusal
   pub head : Shedder
   pub tags : List ℕ
   pub counted : List (List ℕ)
@@ -74,7 +74,7 @@ abbrev pub noting : Cutting → List ℕ → List (List ℕ) → Noted
 noting c tags k = record { answer = c.answer; head = c.head; tags = tags; counted = k }
 
 abbrev pub noted_as : Tally → Noted
-noted_as t = record { answer = done.Counted; head = t.head; tags = t.tags; counted = t.counted }
+noted_as t = record { answer = Ok tt; head = t.head; tags = t.tags; counted = t.counted }
 
 -- the cut counted, under the unit named
 unfoldable pub noted : Tally → Name → Cause → List ℕ → Noted
@@ -91,4 +91,4 @@ unfoldable pub cut : Shedder → Rows → List (List ℕ) → unit.Unit → Caus
 cut h m k u c cost =
     cond (eqb (cut_asked h (length m.tags) (length m.units) (length m.uses) (length k) cost) 0)
     (cond (hands_back h.flow.rate c) (cut_after k u c cost (handed_back (kept_by h m) u (flow.numbers cost))) (cut_after k u c cost (kept_by h m)))
-    (cut_ends (done.Refused (cut_asked h (length m.tags) (length m.units) (length m.uses) (length k) cost)) h m k)
+    (cut_ends (refused (cut_asked h (length m.tags) (length m.units) (length m.uses) (length k) cost)) h m k)

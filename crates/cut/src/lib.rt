@@ -11,25 +11,23 @@ ghost use Rattle.cut_counts.specs.Counting as counting;
 ghost use Rattle.cut.specs.Cutting as cutting;
 
 use flow::DIMS;
-use head::{Cause, Done, Flow, Shedder};
+use head::{Cause, Flow, Refusal, Shedder};
 use sender::{Name, Unit};
 use store::{SourceRow, UnitRow, UseRow};
 
 // What a cut answers, and the head after it.
 #[derive(Clone, Copy)]
 pub struct Cutting {
-    pub answer: Done,
+    pub answer: Result<(), Refusal>,
     pub head: Shedder,
 }
 
 // A bounded relay hands back a cut for the receiver's ceiling.
+#[tactic(auto, unfolding(crate::specs::Cutting::hands_back))]
 fn hands_back(rate: [u64; DIMS], cause: Cause) -> bool
     ensures { result ≡ cutting.hands_back rate cause }
 {
-    if head::is_unbounded(rate) {
-        return false;
-    }
-    head::index_of(cause) == 0
+    !head::is_unbounded(rate) && head::index_of(cause) == 0
 }
 
 // What was admitted, less this cost, down to 0.
@@ -49,19 +47,12 @@ fn lowered(xs: [f64; DIMS], cost: [f64; DIMS]) -> [f64; DIMS]
 fn flowed_back(f: Flow, cost: [f64; DIMS]) -> Flow
     ensures { result ≡ cutting.flowed_back f cost }
 {
-    let rate = f.rate;
-    let ceiling = f.ceiling;
-    let bs = f.buckets;
-    let was = f.admitted;
-    let buckets = flow::returned_all(bs, cost);
-    let admitted = lowered(was, cost);
-    Flow {
-        rate,
-        ceiling,
-        buckets,
-        at_ms: f.at_ms,
-        admitted,
-    }
+    let buckets = flow::returned_all(f.buckets, cost);
+    let admitted = lowered(f.admitted, cost);
+    let mut flow = f;
+    flow.buckets = buckets;
+    flow.admitted = admitted;
+    flow
 }
 
 // All of a batch is handed back.
@@ -86,30 +77,27 @@ fn handed_back(
     ensures counted_value { result.counted ≡ head.counted }
     ensures unit_room_value { result.unit_room ≡ head.unit_room }
 {
-    let f = head.flow;
-    let room = head.unit_room;
-    let overflow = head.overflow;
     let p = store_entry::entry(
         tags,
         units,
         uses,
         head.tracked,
-        room,
+        head.unit_room,
         unit,
         name,
         i,
-        f.at_ms,
+        head.flow.at_ms,
     );
-    let at = p.at;
-    let used = store_entry::used_at(units, uses, overflow, at);
+    let used = store_entry::used_at(units, uses, head.overflow, p.at);
     let next = used.handed_back(cost);
-    let shared = store_entry::put_back(units, uses, overflow, at, next);
-    let flow = flowed_back(f, cost);
-    let mut h = head;
-    h.flow = flow;
-    h.overflow = shared;
-    h.tracked = p.tracked;
-    h
+    let overflow = store_entry::put_back(units, uses, head.overflow, p.at, next);
+    let flow = flowed_back(head.flow, cost);
+    Shedder {
+        flow,
+        overflow,
+        tracked: p.tracked,
+        ..head
+    }
 }
 
 // The cut is counted, and is then done.
@@ -128,7 +116,7 @@ fn noted(
 {
     let t = cut_counts::tallied(head, tags, counted, name, head::index_of(cause), cost[0]);
     Cutting {
-        answer: Done::Counted,
+        answer: Ok(()),
         head: t,
     }
 }
@@ -150,24 +138,21 @@ pub fn cut(
     ensures answer_value { answers.cut_number result.answer
         ≡ asked.cut_asked head (length tags.old) (length units.old) (length uses.old) (length counted.old) cost }
 {
-    let no = head::cut_asked(
+    if let Err(refusal) = head::cut_asked(
         head,
         tags.len(),
         units.len(),
         uses.len(),
         counted.len(),
         cost,
-    );
-    if no != 0 {
+    ) {
         return Cutting {
-            answer: Done::Refused(no),
+            answer: Err(refusal),
             head,
         };
     }
-    let f = head.flow;
-    let rate = f.rate;
     let name = sender::name_of(unit);
-    if hands_back(rate, cause) {
+    if hands_back(head.flow.rate, cause) {
         let i = store_search::find(tags, units, head.tracked, name);
         let h = handed_back(head, tags, units, uses, unit, name, i, flow::numbers(cost));
         return noted(h, tags, counted, name, cause, cost);

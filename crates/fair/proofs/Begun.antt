@@ -20,7 +20,8 @@ use Rattle.flow.proofs.Parts.{upto_at, upto_length, buckets_at}
 use Rattle.store.specs.Store as store
 use Rattle.wants.specs.Wants as wants
 use Rattle.head.specs.declared.Shedder.{Shedder}
-use Rattle.head.specs.declared.Begin.TheVariants as begin
+use Rattle.std.proofs.Common.{Ok}
+use Rattle.head.specs.Answers.{refused}
 use Rattle.fair.specs.Given as goal
 use Rattle.fair.specs.Given.{Memory}
 use Rattle.fair.specs.Store as model
@@ -108,18 +109,18 @@ opening_tied room rate ceiling counted m rates = record {
   wide = λ j h. absurd (omega arith);
 }
 
-started : (n : ℕ) (h o : Shedder) (g k : wants.Hist) (a : Bool) → (cond a (goal.start_ends begin.Started o k) (goal.start_ends (begin.Refused n) h g)).answer ≡ begin.Started
-    → (cond a (goal.start_ends begin.Started o k) (goal.start_ends (begin.Refused n) h g)).head ≡ o
+started : (n : ℕ) (h o : Shedder) (g k : wants.Hist) (a : Bool) → (cond a (goal.start_ends (Ok tt) o k) (goal.start_ends (refused n) h g)).answer ≡ Ok tt
+    → (cond a (goal.start_ends (Ok tt) o k) (goal.start_ends (refused n) h g)).head ≡ o
 started n h o g k true e = refl
 started n h o g k false e = absurd (let z : ◌≡◌ {A = ℕ} 0 1 = cc in omega arith)
 
-pub left_is : (was : Shedder) (m : Memory) (rate ceiling : List ℕ) → (calls.starts was m rate ceiling).answer ≡ begin.Started → (calls.starts was m rate ceiling).head ≡ goal.opening rate ceiling (length m.rows.units) (length m.counted)
+pub left_is : (was : Shedder) (m : Memory) (rate ceiling : List ℕ) → (calls.starts was m rate ceiling).answer ≡ Ok tt → (calls.starts was m rate ceiling).head ≡ goal.opening rate ceiling (length m.rows.units) (length m.counted)
 unfolding goal.start
 left_is was m rate ceiling e =
     started (goal.start_asked rate (length m.rows.tags) (length m.rows.units) (length m.rows.uses) (length m.counted)) was (goal.opening rate ceiling (length m.rows.units) (length m.counted)) m.hist wants.cleared
     (eqb (goal.start_asked rate (length m.rows.tags) (length m.rows.units) (length m.rows.uses) (length m.counted)) 0) e
 
-pub left_tied : (was : Shedder) (m : Memory) (rate ceiling : List ℕ) → goal.all_rates rate ≡ true → (calls.starts was m rate ceiling).answer ≡ begin.Started
+pub left_tied : (was : Shedder) (m : Memory) (rate ceiling : List ℕ) → goal.all_rates rate ≡ true → (calls.starts was m rate ceiling).answer ≡ Ok tt
     → Tied (length m.rows.units) rate (calls.left was m rate ceiling).head m.rows (model.store Name same shares (length m.rows.units) (by_dim rate) (by_dim ceiling) []) 0
 left_tied was m rate ceiling rates e =
     subst (λ (h : Shedder). Tied (length m.rows.units) rate h m.rows (model.store Name same shares (length m.rows.units) (by_dim rate) (by_dim ceiling) []) 0) (sym (left_is was m rate ceiling e))

@@ -18,11 +18,11 @@ use Rattle.sender.specs.declared.Unit as unit
 use Rattle.sender.specs.Sender as sender
 use Rattle.store.specs.Store as store
 use Rattle.head.specs.declared.Shedder.{Shedder}
-use Rattle.head.specs.declared.Answer.{Answer}
-use Rattle.head.specs.declared.Answer.TheVariants as answer
+use Rattle.std.proofs.Common.{Result, Ok}
+use Rattle.head.specs.declared.Refusal.{Refusal}
+use Rattle.head.specs.Answers.{refused as refused_by}
 use Rattle.head.specs.declared.Cause.{Cause}
 use Rattle.head.specs.declared.Cause.TheVariants as cause
-use Rattle.head.specs.declared.Done.TheVariants as done
 use Rattle.fair.specs.Given as goal
 use Rattle.fair.specs.Given.{Memory, memory}
 use Rattle.fair.specs.Runs.{sum, highest, lowest, clock, back, Each}
@@ -50,10 +50,8 @@ use Rattle.fair.proofs.Stepped.{judge_step}
 
 -- ---- a refused call leaves head and memory
 pub verdict_taken : (v : Verdict) → ltb 0 (goal.judge_number (goal.answer_of v)) ≡ false
-unfolding goal.answer_of goal.judge_number
-verdict_taken verdict.Admitted = refl
-verdict_taken verdict.OverShare = refl
-verdict_taken verdict.RelayRate = refl
+unfolding goal.answer_of goal.answer_number
+verdict_taken v = refl
 
 judge_kept : (h : Shedder) (m : Memory) (u : unit.Unit) (cost : List ℕ) (t : ℕ) → calls.refused (calls.state_of h m) (Judge u cost t) ≡ true → calls.state_of (goal.judge h m u cost t).head (goal.judge h m u cost t).memory ≡ calls.state_of h m
 unfolding goal.judge
@@ -66,9 +64,9 @@ judge_kept h m u cost t f =
     taken = unfold goal.bounded in (verdict_taken (goal.judged h m.rows u (goal.numbers cost) (max t h.flow.at_ms)).verdict)
 
     go : (n : ℕ) (a b : Bool)
-        → ltb 0 (goal.judge_number (cond a (cond b (goal.judge_ends answer.Admitted h m) (goal.bounded h m u cost t)) (goal.judge_ends (answer.Refused n) h m)).answer) ≡ true
-        → calls.state_of (cond a (cond b (goal.judge_ends answer.Admitted h m) (goal.bounded h m u cost t)) (goal.judge_ends (answer.Refused n) h m)).head
-        (cond a (cond b (goal.judge_ends answer.Admitted h m) (goal.bounded h m u cost t)) (goal.judge_ends (answer.Refused n) h m)).memory
+        → ltb 0 (goal.judge_number (cond a (cond b (goal.judge_ends (Ok verdict.Admitted) h m) (goal.bounded h m u cost t)) (goal.judge_ends (refused_by n) h m)).answer) ≡ true
+        → calls.state_of (cond a (cond b (goal.judge_ends (Ok verdict.Admitted) h m) (goal.bounded h m u cost t)) (goal.judge_ends (refused_by n) h m)).head
+        (cond a (cond b (goal.judge_ends (Ok verdict.Admitted) h m) (goal.bounded h m u cost t)) (goal.judge_ends (refused_by n) h m)).memory
         ≡ calls.state_of h m
     go n true true f = refl
     go n true false f = absurd (true≢false (sym f ∙ taken))
@@ -78,7 +76,7 @@ abbrev cut_left : Memory → goal.Cut → State
 cut_left m j = calls.state_of j.head (memory j.rows m.hist j.counted)
 
 abbrev cut_no : Shedder → Memory → ℕ → goal.Cut
-cut_no h m n = goal.cut_ends (done.Refused n) h m.rows m.counted
+cut_no h m n = goal.cut_ends (refused_by n) h m.rows m.counted
 
 cut_chosen : (h : Shedder) (m : Memory) (x y : goal.Cut) → ltb 0 (goal.cut_number x.answer) ≡ false → ltb 0 (goal.cut_number y.answer) ≡ false → (n : ℕ) (a b : Bool)
     → ltb 0 (goal.cut_number (cond a (cond b x y) (cut_no h m n)).answer) ≡ true → cut_left m (cond a (cond b x y) (cut_no h m n)) ≡ calls.state_of h m
@@ -87,7 +85,7 @@ cut_chosen h m x y e g n true false f = absurd (true≢false (sym f ∙ g))
 cut_chosen h m x y e g n false b f = refl
 
 cut-kept : (h : Shedder) (m : Memory) (u : unit.Unit) (c : Cause) (cost : List ℕ) → calls.refused (calls.state_of h m) (Cut u c cost) ≡ true → cut_left m (goal.cut h m.rows m.counted u c cost) ≡ calls.state_of h m
-unfolding goal.cut goal.noted goal.cut_number
+unfolding goal.cut goal.noted goal.answer_number
 cut-kept h m u c cost f =
     cut_chosen h m (goal.cut_after m.counted u c cost (goal.handed_back (goal.kept_by h m.rows) u (goal.numbers cost))) (goal.cut_after m.counted u c cost (goal.kept_by h m.rows)) refl refl
     (goal.cut_asked h (length m.rows.tags) (length m.rows.units) (length m.rows.uses) (length m.counted) cost)
@@ -100,7 +98,7 @@ if-same verdict.Admitted x = refl
 if-same verdict.OverShare x = refl
 if-same verdict.RelayRate x = refl
 
-over_of : (v : Verdict) → goal.answer_of v ≡ answer.OverShare → v ≡ verdict.OverShare
+over_of : (v : Verdict) → goal.answer_of v ≡ Ok verdict.OverShare → v ≡ verdict.OverShare
 unfolding goal.answer_of
 over_of verdict.Admitted e = absurd (let z : ◌≡◌ {A = ℕ} 0 1 = cc in omega arith)
 over_of verdict.OverShare e = refl
@@ -178,7 +176,7 @@ module _ (room : ℕ) (rate ceiling : List ℕ) (rates : goal.all_rates rate ≡
     answer_same u cost t f = judging.judge_answer room rate rates s.head s.memory (store_of ms) at_clock u cost t f ∙ ap (λ (k : ℕ). goal.answer_of (judged_verdict u cost t k)) b.clock_is
 
     admitted_same : (d : ℕ) (c : Call) → calls.refused s c ≡ false → calls.admitted d s c ≡ model.admitted Name same shares room (by_dim rate) (by_dim ceiling) d (see s c) ms
-    admitted_same d (Judge u cost t) f = ap (λ (a : Answer). calls.if_admitted a (get_or cost d 0)) (answer_same u cost t f) ∙ if-same (judged_verdict u cost t (clock stamp ms)) (get_or cost d 0)
+    admitted_same d (Judge u cost t) f = ap (λ (a : Result Verdict Refusal). calls.if_admitted a (get_or cost d 0)) (answer_same u cost t f) ∙ if-same (judged_verdict u cost t (clock stamp ms)) (get_or cost d 0)
     admitted_same d (Cut u cause.ReceiverCeiling cost) f = refl
     admitted_same d (Cut u cause.OverShare cost) f = refl
     admitted_same d (Cut u cause.RelayRate cost) f = refl
@@ -399,7 +397,7 @@ module _ (room : ℕ) (rate ceiling : List ℕ) (rates : goal.all_rates rate ≡
           subst (λ (k : K). ModelModest k d (see s j ∷ ms)) (sym key-is)
           (subst (ModelModest (lift r) d) shown_next (modest_same r d (calls.event s j ∷ es h) fits (subst (Modest r d) (sym newest) (m d small))))
 
-      spared : T (Ieee.le (calls.want s u cost t) one) → ((d : ℕ) → d < dims → Modest r d (es (j ∷ h))) → (calls.judges s u cost t).answer ≡ answer.OverShare → ⊥
+      spared : T (Ieee.le (calls.want s u cost t) one) → ((d : ℕ) → d < dims → Modest r d (es (j ∷ h))) → (calls.judges s u cost t).answer ≡ Ok verdict.OverShare → ⊥
       unfolding ModelModest
       spared w m a =
           the_claim.spared (name_of u) (judging.batch_at s.head u cost t (calls.entry s u (calls.clock_at s t))) (judging.fills s.head) _ ms (lawful_all (es h) (whole h).along) (lawful_same s ms (whole h).tie j f)

@@ -21,7 +21,8 @@ use Rattle.head.proofs.Tests.{zero_yes}
 use Rattle.head.specs.declared.Shedder.{Shedder}
 use Rattle.head.specs.declared.Cause.{Cause}
 use Rattle.head.specs.declared.Cause.TheVariants as cause
-use Rattle.head.specs.declared.Done.TheVariants as done
+use Rattle.head.specs.Answers.{refusal_of, refused}
+use Rattle.head.proofs.Numbers.{number_some}
 use Rattle.fair.specs.Given as goal
 use Rattle.fair.specs.Given.{Memory}
 use Rattle.head.proofs.Asked.{cut_ready}
@@ -111,15 +112,15 @@ module _ (room : ℕ) (rate : List ℕ) where
 
 -- ---- a cut that is not refused
 abbrev cut_no : Shedder → Rows → List (List ℕ) → ℕ → goal.Cut
-cut_no h m k n = goal.cut_ends (done.Refused n) h m k
+cut_no h m k n = goal.cut_ends (refused n) h m k
 
 chosen : (h : Shedder) (m : Rows) (k : List (List ℕ)) (n : ℕ) (to : goal.KeptBy → goal.Cut) (x y : goal.KeptBy) (a b : Bool) → eqb n 0 ≡ a
     → ltb 0 (goal.cut_number (cond a (cond b (to x) (to y)) (cut_no h m k n)).answer) ≡ false
     → (a ≡ true) × (cond a (cond b (to x) (to y)) (cut_no h m k n) ≡ to (cond b x y))
-unfolding goal.cut_number
+unfolding goal.answer_number
 chosen h m k n to x y true true q f = (refl, refl)
 chosen h m k n to x y true false q f = (refl, refl)
-chosen h m k n to x y false b q f = absurd (true≢false (sym (eq-eqb n 0 (let z : n ≡ 0 = omega (arith, ltb-false 0 n f) in z)) ∙ q))
+chosen h m k n to x y false b q f = absurd (omega (arith, ltb-false 0 _ f, number_some (refusal_of n)))
 
 pub record Taken (h : Shedder) (m : Rows) (k : List (List ℕ)) (u : unit.Unit) (c : Cause) (cost : List ℕ) : Type 0 where
   pub asked : goal.cut_asked h (length m.tags) (length m.units) (length m.uses) (length k) cost ≡ 0

@@ -17,6 +17,7 @@ use Rattle.verdict.specs.Verdict.{is_admitted}
 use Rattle.flow.specs.declared.Use.{Use}
 use Rattle.verdict.specs.declared.Outcome.{Outcome}
 use Rattle.verdict.specs.declared.Verdict.{Verdict}
+use Rattle.verdict.specs.declared.Verdict.TheVariants as verdict
 use Rattle.sender.specs.declared.Unit as unit
 use Rattle.sender.specs.declared.Name as sender_name
 use Rattle.cut_sources.specs.Counted as counts
@@ -26,7 +27,9 @@ use Rattle.ieee.proofs.Tests.{both_yes}
 use Rattle.head.proofs.Tests.{zero_yes}
 use Rattle.head.specs.declared.Shedder.{Shedder}
 use Rattle.head.specs.declared.Flow.{Flow}
-use Rattle.head.specs.declared.Answer.TheVariants as answer
+use Rattle.std.proofs.Common.{Ok}
+use Rattle.head.specs.Answers.{refusal_of, refused}
+use Rattle.head.proofs.Numbers.{number_some}
 use Rattle.fair.specs.Given as goal
 use Rattle.fair.specs.Given.{Memory, memory}
 use Rattle.head.proofs.Asked.{asked_ready}
@@ -303,12 +306,12 @@ pub record Taken (h : Shedder) (m : Memory) (u : unit.Unit) (cost : List ℕ) (t
   pub is : goal.judge h m u cost t ≡ goal.bounded h m u cost t
 
 chosen : (h : Shedder) (m : Memory) (n : ℕ) (to : goal.Judged) (a b : Bool) → eqb n 0 ≡ a → b ≡ false
-    → ltb 0 (goal.judge_number (cond a (cond b (goal.judge_ends answer.Admitted h m) to) (goal.judge_ends (answer.Refused n) h m)).answer) ≡ false
-    → (a ≡ true) × (cond a (cond b (goal.judge_ends answer.Admitted h m) to) (goal.judge_ends (answer.Refused n) h m) ≡ to)
-unfolding goal.judge_number
+    → ltb 0 (goal.judge_number (cond a (cond b (goal.judge_ends (Ok verdict.Admitted) h m) to) (goal.judge_ends (refused n) h m)).answer) ≡ false
+    → (a ≡ true) × (cond a (cond b (goal.judge_ends (Ok verdict.Admitted) h m) to) (goal.judge_ends (refused n) h m) ≡ to)
+unfolding goal.answer_number
 chosen h m n to true true q e f = absurd (true≢false e)
 chosen h m n to true false q e f = (refl, refl)
-chosen h m n to false b q e f = absurd (true≢false (sym (eq-eqb n 0 (let z : n ≡ 0 = omega (arith, ltb-false 0 n f) in z)) ∙ q))
+chosen h m n to false b q e f = absurd (omega (arith, ltb-false 0 _ f, number_some (refusal_of n)))
 
 pub taken : (h : Shedder) (m : Memory) (u : unit.Unit) (cost : List ℕ) (t : ℕ) → goal.is_unbounded h.flow.rate ≡ false → calls.refused (calls.state_of h m) (calls.Judge u cost t) ≡ false → Taken h m u cost t
 unfolding goal.judge

@@ -14,7 +14,8 @@ use Rattle.head.specs.declared.Shedder.{Shedder}
 use Rattle.ieee.proofs.Tests.{both_yes}
 use Rattle.head.proofs.Tests.{zero_yes, no_yes}
 use Rattle.head.specs.declared.Cause.{Cause}
-use Rattle.head.specs.declared.Begin.TheVariants as begin
+use Rattle.std.proofs.Common.{Ok}
+use Rattle.head.specs.Answers.{refused as refused_by}
 use Rattle.fair.specs.Given as goal
 use Rattle.fair.specs.Given.{Memory, memory}
 use Rattle.fair.specs.Calls as calls
@@ -102,7 +103,7 @@ cut_picked true x y p q = p
 cut_picked false x y p q = q
 
 cut_open : (h : Shedder) (m : Memory) (u : unit.Unit) (c : Cause) (cost : List ℕ) → goal.cut_asked h (length m.rows.tags) (length m.rows.units) (length m.rows.uses) (length m.counted) cost ≡ 0 → calls.refused (calls.state_of h m) (Cut u c cost) ≡ false
-unfolding goal.cut goal.noted goal.cut_number
+unfolding goal.cut goal.noted goal.answer_number
 cut_open h m u c cost e = rw e
     (cut_picked (goal.hands_back h.flow.rate c) (goal.cut_after m.counted u c cost (goal.handed_back (goal.kept_by h m.rows) u (goal.numbers cost))) (goal.cut_after m.counted u c cost (goal.kept_by h m.rows)) refl refl)
 
@@ -203,11 +204,11 @@ asked_sizes rate i u s k e =
     let d = both_yes (eqb s u) _ c.1 in
     record { tags = eqb-true i (u + k) c.0; uses = eqb-true s u d.0; rooms = rooms_of u k 0 0 d.1 }
 
-started_asked : (n : ℕ) (h o : Shedder) (g k : wants.Hist) (a : Bool) → (cond a (goal.start_ends begin.Started o k) (goal.start_ends (begin.Refused n) h g)).answer ≡ begin.Started → a ≡ true
+started_asked : (n : ℕ) (h o : Shedder) (g k : wants.Hist) (a : Bool) → (cond a (goal.start_ends (Ok tt) o k) (goal.start_ends (refused_by n) h g)).answer ≡ Ok tt → a ≡ true
 started_asked n h o g k true e = refl
 started_asked n h o g k false e = absurd (let z : ◌≡◌ {A = ℕ} 0 1 = cc in omega arith)
 
-start_sizes : (was : Shedder) (m : Memory) (rate ceiling : List ℕ) → (calls.starts was m rate ceiling).answer ≡ begin.Started → Sizes (length m.rows.tags) (length m.rows.units) (length m.rows.uses) (length m.counted)
+start_sizes : (was : Shedder) (m : Memory) (rate ceiling : List ℕ) → (calls.starts was m rate ceiling).answer ≡ Ok tt → Sizes (length m.rows.tags) (length m.rows.units) (length m.rows.uses) (length m.counted)
 unfolding goal.start
 start_sizes was m rate ceiling e =
     let n = goal.start_asked rate (length m.rows.tags) (length m.rows.units) (length m.rows.uses) (length m.counted) in

@@ -1,12 +1,14 @@
 -- Demand 3, in terms of the real calls: every list of calls on one shedder's head and memory, from a start at bounded rates on. Definitions, and the statement.
 -- It says in exact terms what document 01 asks of a list of calls (its section on the verdict). All quantities come from the definitions that the contracts cite (`judge`, `cut` and what they
 -- are made of), and nothing out of the program. Crate meaning's page says the same of each call: meaning/proofs/Agrees proves them equal.
-use Rattle.std.specs.Prelude.{ℕ, suc, ◌+◌, ◌-◌, ◌*◌, ◌≤◌, ◌<◌, max, ◌≡◌, Bool, true, false, cond, ◌&&◌, List, [], ◌∷◌, T, eqb, ltb, length, get_or, Float}
+use Rattle.std.specs.Prelude.{ℕ, suc, ◌+◌, ◌-◌, ◌*◌, ◌≤◌, ◌<◌, max, ◌≡◌, Bool, true, false, cond, ◌&&◌, List, [], ◌∷◌, T, eqb, ltb, length, get_or, Float, Result, Ok, Err}
 use Rattle.std.specs.Float.Ieee as Ieee
 use Rattle.std.specs.Float.Ieee.Exact.{HasValue}
 use Rattle.ieee.specs.Doubles.{◌⊴◌, ◌⊲◌, one, nothing}
 use Rattle.ieee.specs.Units.{power, units}
 use Rattle.verdict.specs.Verdict as verdicts
+use Rattle.verdict.specs.declared.Verdict.{Verdict}
+use Rattle.verdict.specs.declared.Verdict.TheVariants as verdict
 use Rattle.flow.specs.Flow.{dims, at, is_fresh}
 use Rattle.flow.specs.declared.Use.{Use}
 use Rattle.sender.specs.declared.Unit as unit
@@ -14,12 +16,10 @@ use Rattle.sender.specs.declared.Name.{Name}
 use Rattle.sender.specs.Sender as sender
 use Rattle.store.specs.Store as store
 use Rattle.head.specs.declared.Shedder.{Shedder}
-use Rattle.head.specs.declared.Answer.{Answer}
-use Rattle.head.specs.declared.Answer.TheVariants as answer
+use Rattle.head.specs.declared.Refusal.{Refusal}
 use Rattle.head.specs.declared.Cause.{Cause}
 use Rattle.head.specs.declared.Cause.TheVariants as cause
 use Rattle.flow.specs.declared.Dim.{Dim}
-use Rattle.head.specs.declared.Begin.TheVariants as begin
 use Rattle.report.specs.Report.{report_asked}
 use Rattle.fair.specs.Given as shed
 use Rattle.fair.specs.Given.{Memory, memory}
@@ -180,11 +180,11 @@ abbrev pub want : State → unit.Unit → List ℕ → ℕ → Float
 want s u cost t = want_of (used s u (clock_at s t)) (clock_at s t) (shed.numbers cost) (fills s) s.head.level
 
 -- ---- what is counted
-abbrev pub if_admitted : Answer → ℕ → ℕ
-if_admitted answer.Admitted c = c
-if_admitted answer.OverShare c = 0
-if_admitted answer.RelayRate c = 0
-if_admitted (answer.Refused n) c = 0
+abbrev pub if_admitted : Result Verdict Refusal → ℕ → ℕ
+if_admitted (Ok verdict.Admitted) c = c
+if_admitted (Ok verdict.OverShare) c = 0
+if_admitted (Ok verdict.RelayRate) c = 0
+if_admitted (Err r) c = 0
 
 abbrev pub if_ceiling : Cause → ℕ → ℕ
 if_ceiling cause.ReceiverCeiling c = c
@@ -273,7 +273,7 @@ pub record Demand (rate ceiling : List ℕ) (first : State) : Type 0 where
       → T (want s u cost t ⊴ one)
       → ((d : ℕ) → d < dims → (k : ℕ) → Present r k es
       → (1000 * parts * sum (by (tried_on r d)) (suc k) es + 1000 * suc k) * power 1074 ≤ parts * ((least_depth + span es k) * lowest (by (judged_on r)) (by (fill_on r d)) k es))
-      → (judges s u cost t).answer ≡ answer.OverShare
+      → (judges s u cost t).answer ≡ Ok verdict.OverShare
       → ⊥)
   -- whatever calls were made, each fill has an exact value
   pub fill : (h : List Call) (d : ℕ) → d < dims → Valued (at (fills (state first h)) d)
@@ -295,7 +295,7 @@ left was m rate ceiling = state_of (starts was m rate ceiling).head (memory m.ro
 
 -- from what a start at bounded rates left, whatever head and memory were lent to it; another start is the first state of another list
 abbrev pub Claim : Type 0
-Claim = (was : Shedder) (m : Memory) (rate ceiling : List ℕ) → shed.all_rates rate ≡ true → (starts was m rate ceiling).answer ≡ begin.Started → Demand rate ceiling (left was m rate ceiling)
+Claim = (was : Shedder) (m : Memory) (rate ceiling : List ℕ) → shed.all_rates rate ≡ true → (starts was m rate ceiling).answer ≡ Ok tt → Demand rate ceiling (left was m rate ceiling)
 
 abbrev pub Lasts : Type 0
-Lasts = (was : Shedder) (m : Memory) (rate ceiling : List ℕ) → shed.all_rates rate ≡ true → (starts was m rate ceiling).answer ≡ begin.Started → Lasting (left was m rate ceiling)
+Lasts = (was : Shedder) (m : Memory) (rate ceiling : List ℕ) → shed.all_rates rate ≡ true → (starts was m rate ceiling).answer ≡ Ok tt → Lasting (left was m rate ceiling)

@@ -5,7 +5,8 @@ unfoldable pub use Rattle.head.specs.Questions.{is_rate, is_max, all_rates, is_u
 pub use Rattle.head.specs.Start.{Beginning, start_ends}
 unfoldable pub use Rattle.head.specs.Start.{buckets, first_levels, opening, start}
 unfoldable pub use Rattle.head.specs.Readings.{index_of, visited as visited_tables, cut_batches, level_read, rate_read, is_bounded}
-unfoldable pub use Rattle.head.specs.Answers.{judge_number, cut_number, reading_number, level_number, rate_number, bounded_number}
+unfoldable pub use Rattle.head.specs.Answers.{answer_number}
+pub use Rattle.head.specs.Answers.{judge_number, cut_number, reading_number, level_number, rate_number, bounded_number}
 pub use Rattle.scan_trim.specs.Trimming.{trims_at}
 unfoldable pub use Rattle.scan_trim.specs.Trimming.{opens, levels, trimmed}
 pub use Rattle.scan.specs.Scanning.{Scanning, scanning, Started, started, ended_at, scanned_from}

@@ -6,8 +6,10 @@ use Rattle.ieee.specs.Doubles.{one}
 use Rattle.ieee.specs.Units.{power}
 use Rattle.flow.specs.Flow.{dims}
 use Rattle.sender.specs.declared.Unit as unit
-use Rattle.head.specs.declared.Answer.{Answer}
-use Rattle.head.specs.declared.Answer.TheVariants as answer
+use Rattle.std.proofs.Common.{Result, Ok, Err}
+use Rattle.verdict.specs.declared.Verdict.{Verdict}
+use Rattle.verdict.specs.declared.Verdict.TheVariants as verdict
+use Rattle.head.specs.declared.Refusal.{Refusal}
 use Rattle.fair.specs.Calls as calls
 use Rattle.fair.specs.Calls.{State, Call, Judge, Event, Demand, event, events, by, span, admitted, handed, admitted_on, handed_on, fill_on, key, clock_at, want, judges, refused}
 use Rattle.fair.specs.Runs.{sum, highest}
@@ -104,16 +106,16 @@ unfolding ends_over_share
 over_newest zero e es f = absurd (true≢false (sym f))
 over_newest (suc n) e es f = f
 
-answer_is : (a : Answer) → is_over_share a ≡ true → a ≡ answer.OverShare
+answer_is : (a : Result Verdict Refusal) → is_over_share a ≡ true → a ≡ Ok verdict.OverShare
 unfolding is_over_share
-answer_is answer.Admitted f = absurd (true≢false (sym f))
-answer_is answer.OverShare f = refl
-answer_is answer.RelayRate f = absurd (true≢false (sym f))
-answer_is (answer.Refused n) f = absurd (true≢false (sym f))
+answer_is (Ok verdict.Admitted) f = absurd (true≢false (sym f))
+answer_is (Ok verdict.OverShare) f = refl
+answer_is (Ok verdict.RelayRate) f = absurd (true≢false (sym f))
+answer_is (Err r) f = absurd (true≢false (sym f))
 
 -- the third claim, of a state, a judgement and the calls up to it
 abbrev Third : unit.Unit → List ℕ → ℕ → State → List Event → Type 0
-Third u cost t s es = T (Ieee.le (want s u cost t) one) → Within (key s u (clock_at s t)) es → (judges s u cost t).answer ≡ answer.OverShare → ⊥
+Third u cost t s es = T (Ieee.le (want s u cost t) one) → Within (key s u (clock_at s t)) es → (judges s u cost t).answer ≡ Ok verdict.OverShare → ⊥
 
 third : (rate ceiling : List ℕ) (first : State) (h : List Call) → Begun rate ceiling first → (s : State) (u : unit.Unit) (cost : List ℕ) (t : ℕ) → Newest first h (event s (Judge u cost t)) → Third u cost t s (events first h)
 third rate ceiling first h begun s u cost t n =

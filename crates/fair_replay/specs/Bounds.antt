@@ -1,11 +1,10 @@
 -- Demand 3's three claims of one run of a list of calls, for what `replay` returns of it. The statements.
-use Rattle.std.specs.Prelude.{◌≡◌, ℕ, suc, ◌+◌, ◌-◌, ◌*◌, ◌<◌, ◌≤◌, Bool, true, T, List, ◌∷◌, slice_index}
+use Rattle.std.specs.Prelude.{◌≡◌, ℕ, suc, ◌+◌, ◌-◌, ◌*◌, ◌<◌, ◌≤◌, Bool, true, T, List, ◌∷◌, slice_index, Ok}
 use Rattle.ieee.specs.Doubles.{◌⊴◌, one}
 use Rattle.ieee.specs.Units.{power}
 use Rattle.flow.specs.Flow.{dims}
 use Rattle.sender.specs.declared.Unit as unit
 use Rattle.head.specs.declared.Shedder.{Shedder}
-use Rattle.head.specs.declared.Begin.TheVariants as begin
 use Rattle.head.specs.Questions.{all_rates}
 use Rattle.judge.specs.Judging.{Memory}
 use Rattle.fair.specs.Calls as calls
@@ -19,7 +18,7 @@ pub record Begun (rate ceiling : List ℕ) (first : State) : Type 0 where
   pub was : Shedder
   pub memory : Memory
   pub bounded : all_rates rate ≡ true
-  pub started : (starts was memory rate ceiling).answer ≡ begin.Started
+  pub started : (starts was memory rate ceiling).answer ≡ Ok tt
   pub left : first ≡ calls.left was memory rate ceiling
 
 -- the milliseconds of the clock from the first call of the run to the last (0 where there is none)

@@ -6,8 +6,10 @@ use Prim.Native.Nat.{ℕ, ◌+◌}
 use lib.Dec.{eqb}
 use lib.ListN.{get_or, replicate}
 use Rattle.flow.specs.Flow.{dims, upto}
-use Rattle.head.specs.declared.Answer.{Answer}
-use Rattle.head.specs.declared.Answer.TheVariants as answer
+use Rattle.std.proofs.Common.{Result, Ok, Err}
+use Rattle.verdict.specs.declared.Verdict.{Verdict}
+use Rattle.verdict.specs.declared.Verdict.TheVariants as verdict
+use Rattle.head.specs.declared.Refusal.{Refusal}
 use Rattle.head.specs.declared.Cause.{Cause}
 use Rattle.head.specs.declared.Cause.TheVariants as cause
 use Rattle.head.specs.declared.Shedder.{Shedder}
@@ -61,12 +63,12 @@ none : (w : ℕ → State → Call → ℕ) (s : State) (c : Call) → ((d : ℕ
 unfolding amounts
 none w s c e = zeros_parts ∙ same_parts _ _ dims (replicate dims 0) (λ d l. sym (e d))
 
-admits : (a : Answer) (cost : List ℕ) → cost ≡ upto (λ (d : ℕ). get_or cost d 0) dims (replicate dims 0) → counted_if (is_admitted a) cost ≡ upto (λ (d : ℕ). calls.if_admitted a (get_or cost d 0)) dims (replicate dims 0)
+admits : (a : Result Verdict Refusal) (cost : List ℕ) → cost ≡ upto (λ (d : ℕ). get_or cost d 0) dims (replicate dims 0) → counted_if (is_admitted a) cost ≡ upto (λ (d : ℕ). calls.if_admitted a (get_or cost d 0)) dims (replicate dims 0)
 unfolding counted_if is_admitted
-admits answer.Admitted cost e = e
-admits answer.OverShare cost e = zeros_parts
-admits answer.RelayRate cost e = zeros_parts
-admits (answer.Refused n) cost e = zeros_parts
+admits (Ok verdict.Admitted) cost e = e
+admits (Ok verdict.OverShare) cost e = zeros_parts
+admits (Ok verdict.RelayRate) cost e = zeros_parts
+admits (Err r) cost e = zeros_parts
 
 hands : (c : Cause) (cost : List ℕ) → cost ≡ upto (λ (d : ℕ). get_or cost d 0) dims (replicate dims 0) → counted_if (eqb (index_of c) 0) cost ≡ upto (λ (d : ℕ). calls.if_ceiling c (get_or cost d 0)) dims (replicate dims 0)
 unfolding counted_if index_of

@@ -10,14 +10,11 @@ use Rattle.text.specs.Page.{page, write}
 use Rattle.head.specs.declared.Shedder.{Shedder}
 use Rattle.head.specs.declared.Cause.{Cause}
 use Rattle.flow.specs.declared.Dim.{Dim}
-use Rattle.head.specs.declared.Reading.{Reading}
-use Rattle.head.specs.declared.LevelRead.{LevelRead}
-use Rattle.head.specs.declared.RateRead.{RateRead}
-use Rattle.head.specs.declared.BoundedRead.{BoundedRead}
-use Rattle.head.specs.Answers.{reading_number, level_number, rate_number, bounded_number}
+use Rattle.std.proofs.Common.{Bool, Option, Result, Ok, Float}
+use Rattle.head.specs.declared.Refusal.{Refusal}
+use Rattle.head.specs.Answers.{refused, reading_number, level_number, rate_number, bounded_number}
 use Rattle.head.specs.Readings.{visited, cut_batches, level_read, rate_read, is_bounded}
 use Rattle.codes.specs.Numbers.{cause_of, dim_of}
-use Rattle.head.specs.declared.Written.TheVariants.{Bytes, Refused}
 use Rattle.report.specs.Report as reports
 use Rattle.report.proofs.Asking.{written}
 use Rattle.judge.specs.Judging.{Memory}
@@ -27,29 +24,29 @@ use Rattle.fair_row.specs.Replay.{head_reading, reading_in, read_page, report_pa
 
 -- ---- the head alone
 module _ (h : Shedder) (m : Memory) (which n : ℕ) (x : ℕ) where
-  pub count-is : (c : Cause) (r : Reading) → eqb which 4 ≡ true → c ≡ cause_of n → r ≡ cut_batches h c → x ≡ reading_number r → x ≡ calls.read_number (calls.state_of h m) (head_reading which n)
+  pub count-is : (c : Cause) (r : Result ℕ Refusal) → eqb which 4 ≡ true → c ≡ cause_of n → r ≡ cut_batches h c → x ≡ reading_number r → x ≡ calls.read_number (calls.state_of h m) (head_reading which n)
   unfolding head_reading
   count-is c r e ec er ex = rw e (ex ∙ ap reading_number er ∙ ap (λ (y : Cause). reading_number (cut_batches h y)) ec)
 
-  pub visited_is : (r : Reading) → eqb which 4 ≡ false → eqb which 5 ≡ true → r ≡ visited h → x ≡ reading_number r → x ≡ calls.read_number (calls.state_of h m) (head_reading which n)
+  pub visited_is : (r : Result ℕ Refusal) → eqb which 4 ≡ false → eqb which 5 ≡ true → r ≡ visited h → x ≡ reading_number r → x ≡ calls.read_number (calls.state_of h m) (head_reading which n)
   unfolding head_reading
   visited_is r e f er ex = rw (e, f) (ex ∙ ap reading_number er)
 
-  pub level_is : (d : Dim) (r : LevelRead) → eqb which 4 ≡ false → eqb which 5 ≡ false → eqb which 6 ≡ true → d ≡ dim_of n → r ≡ level_read h d → x ≡ level_number r → x ≡ calls.read_number (calls.state_of h m) (head_reading which n)
+  pub level_is : (d : Dim) (r : Result Float Refusal) → eqb which 4 ≡ false → eqb which 5 ≡ false → eqb which 6 ≡ true → d ≡ dim_of n → r ≡ level_read h d → x ≡ level_number r → x ≡ calls.read_number (calls.state_of h m) (head_reading which n)
   unfolding head_reading
   level_is d r e f g ed er ex = rw (e, f, g) (ex ∙ ap level_number er ∙ ap (λ (y : Dim). level_number (level_read h y)) ed)
 
-  pub rate_is : (d : Dim) (r : RateRead) → eqb which 4 ≡ false → eqb which 5 ≡ false → eqb which 6 ≡ false → eqb which 7 ≡ true → d ≡ dim_of n → r ≡ rate_read h d → x ≡ rate_number r
+  pub rate_is : (d : Dim) (r : Result (Option ℕ) Refusal) → eqb which 4 ≡ false → eqb which 5 ≡ false → eqb which 6 ≡ false → eqb which 7 ≡ true → d ≡ dim_of n → r ≡ rate_read h d → x ≡ rate_number r
       → x ≡ calls.read_number (calls.state_of h m) (head_reading which n)
   unfolding head_reading
   rate_is d r e f g k ed er ex = rw (e, f, g, k) (ex ∙ ap rate_number er ∙ ap (λ (y : Dim). rate_number (rate_read h y)) ed)
 
-  pub bounded_is : (r : BoundedRead) → eqb which 4 ≡ false → eqb which 5 ≡ false → eqb which 6 ≡ false → eqb which 7 ≡ false → r ≡ is_bounded h → x ≡ bounded_number r → x ≡ calls.read_number (calls.state_of h m) (head_reading which n)
+  pub bounded_is : (r : Result Bool Refusal) → eqb which 4 ≡ false → eqb which 5 ≡ false → eqb which 6 ≡ false → eqb which 7 ≡ false → r ≡ is_bounded h → x ≡ bounded_number r → x ≡ calls.read_number (calls.state_of h m) (head_reading which n)
   unfolding head_reading
   bounded_is r e f g k er ex = rw (e, f, g, k) (ex ∙ ap bounded_number er)
 
 -- ---- the report and the call beside it
-bytes_of : (t : Bool) (a : ℕ) (xs : List ℕ) → reports.bytes (cond t (Bytes (length xs)) (Refused a)) ≡ length (cond t xs [])
+bytes_of : (t : Bool) (a : ℕ) (xs : List ℕ) → reports.bytes (cond t (Ok (length xs)) (refused a)) ≡ length (cond t xs [])
 bytes_of true a xs = refl
 bytes_of false a xs = refl
 

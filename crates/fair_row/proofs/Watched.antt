@@ -15,7 +15,10 @@ use Rattle.flow.specs.Flow as flow
 use Rattle.store.specs.Store as store
 use Rattle.store.specs.Store.{Rows}
 use Rattle.head.specs.declared.Shedder.{Shedder}
-use Rattle.head.specs.declared.Answer.TheVariants as answer
+use Rattle.std.proofs.Common.{Ok}
+use Rattle.verdict.specs.declared.Verdict.TheVariants as verdict
+use Rattle.head.specs.Answers.{refusal_of, refused, answer_number}
+use Rattle.head.proofs.Numbers.{number_some}
 use Rattle.head.specs.Answers.{judge_number}
 use Rattle.head.specs.Questions.{is_unbounded, judge_asked}
 use Rattle.head.proofs.Asked.{asked_ready}
@@ -80,17 +83,17 @@ own_is m tracked room u now eh eu l =
     own_by m (store.added m tracked (sender.name_of u) (flow.added now)) (store.find m.tags m.units (sender.name_of u) tracked) tracked room (length m.tags) (length m.units) (sender.is_overflow u) _ _ refl refl eh eu l
 
 -- ---- not refused: questions 3 and 4 were answered yes
-asked_by : (h : Shedder) (m : Memory) (n : ℕ) (a : Bool) (x : Judged) → eqb n 0 ≡ a → judge_number (cond a x (judge_ends (answer.Refused n) h m)).answer ≡ 0 → n ≡ 0
-unfolding judge_number
+asked_by : (h : Shedder) (m : Memory) (n : ℕ) (a : Bool) (x : Judged) → eqb n 0 ≡ a → judge_number (cond a x (judge_ends (refused n) h m)).answer ≡ 0 → n ≡ 0
+unfolding answer_number
 asked_by h m n true x e f = eqb-true n 0 e
-asked_by h m n false x e f = f
+asked_by h m n false x e f = absurd (omega (arith, number_some (refusal_of n), f))
 
 asked : (h : Shedder) (m : Memory) (u : unit.Unit) (cost : List ℕ) (t : ℕ) → judge_number (judging.judge h m u cost t).answer ≡ 0
     → judge_asked h (length m.rows.tags) (length m.rows.units) (length m.rows.uses) (length m.counted) cost t ≡ 0
 unfolding judging.judge
 asked h m u cost t f =
     asked_by h m (judge_asked h (length m.rows.tags) (length m.rows.units) (length m.rows.uses) (length m.counted) cost t) _
-    (cond (is_unbounded h.flow.rate) (judge_ends answer.Admitted h m) (bounded h m u cost t))
+    (cond (is_unbounded h.flow.rate) (judge_ends (Ok verdict.Admitted) h m) (bounded h m u cost t))
     refl f
 
 pub watched_is : (h : Shedder) (m : Memory) (u : unit.Unit) (cost : List ℕ) (t : ℕ) (w : unit.Unit) → judge_number (judging.judge h m u cost t).answer ≡ 0

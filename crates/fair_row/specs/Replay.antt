@@ -1,5 +1,5 @@
 -- A list of calls written as rows of words, and what running it leaves. Definitions only.
-use Rattle.std.specs.Prelude.{ℕ, zero, suc, ◌+◌, ◌^◌, ◌%◌, ◌≡◌, Bool, true, false, cond, ◌&&◌, List, [], ◌∷◌, eqb, leb, ltb, length, get_or, replicate, Float}
+use Rattle.std.specs.Prelude.{ℕ, zero, suc, ◌+◌, ◌^◌, ◌%◌, ◌≡◌, Bool, true, false, cond, ◌&&◌, List, [], ◌∷◌, eqb, leb, ltb, length, get_or, replicate, Float, Result, Ok, Err}
 use Rattle.flow.specs.Flow.{dims, upto}
 use Rattle.sender.specs.declared.Unit as unit
 use Rattle.sender.specs.declared.Words.{Words}
@@ -8,8 +8,9 @@ use Rattle.store.specs.Store as store
 use Rattle.wants.specs.Wants as wants
 use Rattle.wants.specs.Wants.{Hist}
 use Rattle.head.specs.declared.Shedder.{Shedder}
-use Rattle.head.specs.declared.Answer.{Answer}
-use Rattle.head.specs.declared.Answer.TheVariants as answer
+use Rattle.verdict.specs.declared.Verdict.{Verdict}
+use Rattle.verdict.specs.declared.Verdict.TheVariants as verdict
+use Rattle.head.specs.declared.Refusal.{Refusal}
 use Rattle.codes.specs.Numbers.{cause_of, dim_of}
 use Rattle.report.specs.Report as reports
 use Rattle.judge.specs.Judging as judging
@@ -100,17 +101,17 @@ module _ (first : State) (from : ℕ) where
   run page rows (suc n) = run_after (run page rows n) n (get_or rows n [])
 
 -- ---- the totals
-unfoldable pub is_admitted : Answer → Bool
-is_admitted answer.Admitted = true
-is_admitted answer.OverShare = false
-is_admitted answer.RelayRate = false
-is_admitted (answer.Refused n) = false
+unfoldable pub is_admitted : Result Verdict Refusal → Bool
+is_admitted (Ok verdict.Admitted) = true
+is_admitted (Ok verdict.OverShare) = false
+is_admitted (Ok verdict.RelayRate) = false
+is_admitted (Err r) = false
 
-unfoldable pub is_over_share : Answer → Bool
-is_over_share answer.Admitted = false
-is_over_share answer.OverShare = true
-is_over_share answer.RelayRate = false
-is_over_share (answer.Refused n) = false
+unfoldable pub is_over_share : Result Verdict Refusal → Bool
+is_over_share (Ok verdict.Admitted) = false
+is_over_share (Ok verdict.OverShare) = true
+is_over_share (Ok verdict.RelayRate) = false
+is_over_share (Err r) = false
 
 -- the cost, or nothing
 unfoldable pub counted_if : Bool → List ℕ → List ℕ

@@ -12,36 +12,29 @@ ghost use Rattle.judge.specs.Judging.{Memory};
 ghost use Rattle.fair.specs.Calls as calls;
 ghost use Rattle.fair_row.specs.Replay as replay;
 
-use codes::{cause_of, cut_number, judge_number};
+use codes::{answer_number, cause_of};
 use flow::DIMS;
-use head::{Answer, Shedder};
+use head::{Refusal, Shedder};
 use own::on_watched;
 use read::read_row;
 use rows::{cost_in, words_in};
 use sender::Unit;
 use store::{SourceRow, UnitRow, UseRow};
+use verdict::Verdict;
 use wants::{Counts, Sums};
 
-fn is_admitted(answer: Answer) -> bool
+#[tactic(auto, unfolding(crate::specs::Replay::is_admitted))]
+fn is_admitted(answer: Result<Verdict, Refusal>) -> bool
     ensures { result ≡ replay.is_admitted answer }
 {
-    match answer {
-        Answer::Admitted => true,
-        Answer::OverShare => false,
-        Answer::RelayRate => false,
-        Answer::Refused(_) => false,
-    }
+    matches!(answer, Ok(Verdict::Admitted))
 }
 
-fn is_over_share(answer: Answer) -> bool
+#[tactic(auto, unfolding(crate::specs::Replay::is_over_share))]
+fn is_over_share(answer: Result<Verdict, Refusal>) -> bool
     ensures { result ≡ replay.is_over_share answer }
 {
-    match answer {
-        Answer::Admitted => false,
-        Answer::OverShare => true,
-        Answer::RelayRate => false,
-        Answer::Refused(_) => false,
-    }
+    matches!(answer, Ok(Verdict::OverShare))
 }
 
 // The cost, or nothing.
@@ -88,14 +81,13 @@ fn judge_row(
     let judged = judge::judge(
         head, tags, units, uses, counts, sums, counted, unit, cost, stamp,
     );
-    let answer = judged.answer;
     let left = judged.head;
-    let number = judge_number(answer);
-    let goes = is_admitted(answer);
+    let number = answer_number(judged.answer);
+    let goes = is_admitted(judged.answer);
     let admitted = counted_if(goes, cost);
     let admitted_on = counted_if(mine, admitted);
     let handed = [0u64; DIMS];
-    let over_share = is_over_share(answer);
+    let over_share = is_over_share(judged.answer);
     Turned {
         head: left,
         number,
@@ -123,9 +115,8 @@ fn cut_row(
     let cost = cost_in(row);
     let cause = cause_of(row[6]);
     let cut = cut::cut(head, tags, units, uses, counted, unit, cause, cost);
-    let answer = cut.answer;
     let left = cut.head;
-    let number = cut_number(answer);
+    let number = answer_number(cut.answer);
     let place = head::index_of(cause);
     let handed = counted_if(place == 0, cost);
     let none = [0u64; DIMS];

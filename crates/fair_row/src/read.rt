@@ -5,9 +5,7 @@ ghost use Rattle.judge.specs.Judging.{Memory};
 ghost use Rattle.fair.specs.Calls as calls;
 ghost use Rattle.fair_row.specs.Replay as replay;
 
-use codes::{
-    bounded_number, cause_of, dim_of, level_number, rate_number, reading_number, report_number,
-};
+use codes::{answer_number, cause_of, dim_of};
 use flow::DIMS;
 use head::Shedder;
 use store::{SourceRow, UnitRow, UseRow};
@@ -19,24 +17,13 @@ const PAGE: usize = 4096;
 fn head_read(head: Shedder, which: u64, n: u64) -> u64
     ensures { (m : Memory) → result ≡ calls.read_number (calls.state_of head m) (replay.head_reading which n) }
 {
-    if which == 4 {
-        let count = head_readings::cut_batches(head, cause_of(n));
-        return reading_number(count);
+    match which {
+        4 => answer_number(head_readings::cut_batches(head, cause_of(n))),
+        5 => answer_number(head_readings::visited(head)),
+        6 => answer_number(head_readings::level(head, dim_of(n))),
+        7 => answer_number(head_readings::rate(head, dim_of(n))),
+        _ => answer_number(head_readings::is_bounded(head)),
     }
-    if which == 5 {
-        let visited = head_readings::visited(head);
-        return reading_number(visited);
-    }
-    if which == 6 {
-        let level = head_readings::level(head, dim_of(n));
-        return level_number(level);
-    }
-    if which == 7 {
-        let rate = head_readings::rate(head, dim_of(n));
-        return rate_number(rate);
-    }
-    let bounded = head_readings::is_bounded(head);
-    bounded_number(bounded)
 }
 
 // A report into out; the answer is the number of its refusal. A buffer that `report` is lent goes into its result, and has no
@@ -59,14 +46,13 @@ fn put_report(
 {
     let room = out.len();
     if room <= PAGE {
-        let number = report::report_refusal(head, tags, units, uses, counted, out);
+        let refusal = report::report_refusal(head, tags, units, uses, counted, out);
         let mut own = [0u8; PAGE];
         let part = report::report(head, tags, units, uses, counted, &mut own[..room]);
         text::put(out, 0, part);
-        return number;
+        return answer_number(refusal);
     }
-    let written = report::write_report(head, tags, units, uses, counted, out);
-    report_number(written)
+    answer_number(report::write_report(head, tags, units, uses, counted, out))
 }
 
 // A report into out, the call beside it, or a reading of the head.
@@ -91,7 +77,7 @@ pub fn read_row(
         return put_report(head, tags, units, uses, counted, out);
     }
     if which == 3 {
-        return report::report_refusal(head, tags, units, uses, counted, out);
+        return answer_number(report::report_refusal(head, tags, units, uses, counted, out));
     }
     head_read(head, which, row[6])
 }

@@ -1,54 +1,57 @@
--- Document 01's number of an answer: that of the question answered no, and 0 where the call was not refused. Definitions only.
-use Rattle.std.specs.Prelude.{ℕ}
-use Rattle.head.specs.declared.Answer.{Answer}
-use Rattle.head.specs.declared.Answer.TheVariants as answer
-use Rattle.head.specs.declared.Done.{Done}
-use Rattle.head.specs.declared.Done.TheVariants as done
-use Rattle.head.specs.declared.Begin.{Begin}
-use Rattle.head.specs.declared.Begin.TheVariants as begin
-use Rattle.head.specs.declared.Reading.{Reading}
-use Rattle.head.specs.declared.Reading.TheVariants as reading
-use Rattle.head.specs.declared.LevelRead.{LevelRead}
-use Rattle.head.specs.declared.LevelRead.TheVariants as level_reads
-use Rattle.head.specs.declared.RateRead.{RateRead}
-use Rattle.head.specs.declared.RateRead.TheVariants as rate_reads
-use Rattle.head.specs.declared.BoundedRead.{BoundedRead}
-use Rattle.head.specs.declared.BoundedRead.TheVariants as bounded_reads
-use Rattle.head.specs.declared.Written.{Written}
-use Rattle.head.specs.declared.Written.TheVariants as written
+-- The number of an answer: that of the question answered no, and 0 where the call was not refused. Definitions and statement only; proofs/Answers proves it.
+use Rattle.std.specs.Prelude.{ℕ, ◌≤◌, ◌≡◌, ⊤, cond, eqb, Option, Result, Ok, Err, Bool, Float}
+use Rattle.verdict.specs.declared.Verdict.{Verdict}
+use Rattle.head.specs.declared.Refusal.{Refusal}
+use Rattle.head.specs.declared.Refusal.TheVariants.{Rates, Sizes, Head, Memory, Cost, Stamp, Buffer}
 
-unfoldable pub start_number : Begin → ℕ
-start_number begin.Started = 0
-start_number (begin.Refused n) = n
+-- a refusal's number
+unfoldable pub number_of : Refusal → ℕ
+number_of Rates = 1
+number_of Sizes = 2
+number_of Head = 3
+number_of Memory = 4
+number_of Cost = 5
+number_of Stamp = 6
+number_of Buffer = 7
 
-unfoldable pub judge_number : Answer → ℕ
-judge_number answer.Admitted = 0
-judge_number answer.OverShare = 0
-judge_number answer.RelayRate = 0
-judge_number (answer.Refused n) = n
+-- and the refusal of a number, 1 to 7
+unfoldable pub refusal_of : ℕ → Refusal
+refusal_of n = cond (eqb n 1) Rates (cond (eqb n 2) Sizes (cond (eqb n 3) Head (cond (eqb n 4) Memory (cond (eqb n 5) Cost (cond (eqb n 6) Stamp Buffer)))))
 
-unfoldable pub cut_number : Done → ℕ
-cut_number done.Counted = 0
-cut_number (done.Refused n) = n
+pub record Inverse : Type 0 where
+  pub back : (r : Refusal) → refusal_of (number_of r) ≡ r
+  pub there : (n : ℕ) → 1 ≤ n → n ≤ 7 → number_of (refusal_of n) ≡ n
 
-unfoldable pub reading_number : Reading → ℕ
-reading_number (reading.Whole x) = 0
-reading_number (reading.Refused n) = n
+-- the answer of a call that is refused by the number n
+abbrev pub refused : {A : Type 0} → ℕ → Result A Refusal
+refused n = Err (refusal_of n)
 
-unfoldable pub level_number : LevelRead → ℕ
-level_number (level_reads.Level x) = 0
-level_number (level_reads.Refused n) = n
+-- THE NUMBER OF AN ANSWER
+unfoldable pub answer_number : {A : Type 0} → Result A Refusal → ℕ
+answer_number (Ok x) = 0
+answer_number (Err r) = number_of r
 
-unfoldable pub rate_number : RateRead → ℕ
-rate_number rate_reads.Unbounded = 0
-rate_number (rate_reads.PerSecond x) = 0
-rate_number (rate_reads.Refused n) = n
+-- of a start, a judgement, a cut, a count read, a level, a rate, whether the relay is bounded, a report
+abbrev pub start_number : Result ⊤ Refusal → ℕ
+start_number a = answer_number a
 
-unfoldable pub bounded_number : BoundedRead → ℕ
-bounded_number bounded_reads.Bounded = 0
-bounded_number bounded_reads.Unbounded = 0
-bounded_number (bounded_reads.Refused n) = n
+abbrev pub judge_number : Result Verdict Refusal → ℕ
+judge_number a = answer_number a
 
-abbrev pub written_number : Written → ℕ
-written_number (written.Bytes n) = 0
-written_number (written.Refused k) = k
+abbrev pub cut_number : Result ⊤ Refusal → ℕ
+cut_number a = answer_number a
+
+abbrev pub reading_number : Result ℕ Refusal → ℕ
+reading_number a = answer_number a
+
+abbrev pub level_number : Result Float Refusal → ℕ
+level_number a = answer_number a
+
+abbrev pub rate_number : Result (Option ℕ) Refusal → ℕ
+rate_number a = answer_number a
+
+abbrev pub bounded_number : Result Bool Refusal → ℕ
+bounded_number a = answer_number a
+
+abbrev pub written_number : Result ℕ Refusal → ℕ
+written_number a = answer_number a

@@ -1,5 +1,5 @@
 -- The start: the head that it makes. Definitions only.
-use Rattle.std.specs.Prelude.{cond, ℕ, List, eqb, get_or, replicate, Float}
+use Rattle.std.specs.Prelude.{cond, ℕ, ⊤, List, eqb, get_or, replicate, Float, Result, Ok}
 use Rattle.std.specs.Float.{binary64}
 use Rattle.std.specs.Float.Ieee.{of_bits}
 use Rattle.ieee.specs.Doubles.{◌⊘◌, nothing, one}
@@ -11,9 +11,9 @@ use Rattle.store.specs.Store.{«CAUSES»}
 use Rattle.wants.specs.Wants as wants
 use Rattle.wants.specs.Wants.{Hist}
 use Rattle.head.specs.declared.Shedder.{Shedder}
-use Rattle.head.specs.declared.Begin.{Begin}
+use Rattle.head.specs.declared.Refusal.{Refusal}
 use Rattle.head.specs.declared.Starting.{Starting}
-use Rattle.head.specs.declared.Begin.TheVariants as begin
+use Rattle.head.specs.Answers.{refused}
 use Rattle.head.specs.Questions.{start_asked}
 
 unfoldable pub buckets : List ℕ → List ℕ → List Bucket
@@ -51,17 +51,17 @@ opening rate ceiling units counted = record {
 }
 
 pub record Beginning : Type 0 where
-  pub answer : Begin
+  pub answer : Result ⊤ Refusal
   pub head : Shedder
   pub hist : Hist
 
 abbrev pub beginning : Starting → Hist → Beginning
 beginning s g = record { answer = s.answer; head = s.head; hist = g }
 
-abbrev pub start_ends : Begin → Shedder → Hist → Beginning
+abbrev pub start_ends : Result ⊤ Refusal → Shedder → Hist → Beginning
 start_ends b h g = record { answer = b; head = h; hist = g }
 
 -- THE START: no record is written; a refused one leaves the head that was
 unfoldable pub start : Shedder → ℕ → ℕ → ℕ → ℕ → Hist → List ℕ → List ℕ → Beginning
 start h tags units uses counted g rate ceiling =
-    cond (eqb (start_asked rate tags units uses counted) 0) (start_ends begin.Started (opening rate ceiling units counted) wants.cleared) (start_ends (begin.Refused (start_asked rate tags units uses counted)) h g)
+    cond (eqb (start_asked rate tags units uses counted) 0) (start_ends (Ok tt) (opening rate ceiling units counted) wants.cleared) (start_ends (refused (start_asked rate tags units uses counted)) h g)

@@ -14,7 +14,6 @@ use flow::{Bucket, DIMS, RATE_MOST, UNBOUNDED, Use};
 use sender::TABLES;
 pub use store::CAUSES;
 use store::{SourceRow, UnitRow, UseRow};
-use verdict::Rule;
 use wants::{Counts, Sums};
 
 // Units tracked at most. Every further one shares overflow's record.
@@ -93,96 +92,53 @@ pub enum Cause {
     RelayRate,
 }
 
-// A refusal carries the number of the question that was answered no.
-#[derive(Clone, Copy)]
-pub enum Answer {
-    Admitted,
-    OverShare,
-    RelayRate,
-    Refused(u64),
+// Why a call was refused: the first of its questions that was answered no, by its number.
+#[derive(Clone, Copy, PartialEq, Eq)]
+pub enum Refusal {
+    // a start: the rates; the sizes of the memory lent
+    Rates = 1,
+    Sizes = 2,
+    // the head; the memory lent; the cost; the stamp
+    Head = 3,
+    Memory = 4,
+    Cost = 5,
+    Stamp = 6,
+    // the report: the room in its buffer
+    Buffer = 7,
 }
 
-// The rule that decided a judgement; one that was refused has none.
-#[derive(Clone, Copy)]
-pub enum Ruling {
-    Refused,
-    Ruled(Rule),
-}
+impl From<Refusal> for u64 {
+    ghost from_gives = { λ refusal n. n ≡ answers.number_of refusal };
 
-#[derive(Clone, Copy)]
-pub enum Done {
-    Counted,
-    Refused(u64),
-}
-
-#[derive(Clone, Copy)]
-pub enum Begin {
-    Started,
-    Refused(u64),
+    #[tactic(auto, unfolding(crate::specs::Answers::number_of))]
+    fn from(refusal: Refusal) -> u64 {
+        refusal as u64
+    }
 }
 
 #[derive(Clone, Copy)]
 pub struct Starting {
-    pub answer: Begin,
+    pub answer: Result<(), Refusal>,
     pub head: Shedder,
-}
-
-#[derive(Clone, Copy)]
-pub enum Reading {
-    Whole(u64),
-    Refused(u64),
-}
-
-#[derive(Clone, Copy)]
-pub enum LevelRead {
-    Level(f64),
-    Refused(u64),
-}
-
-#[derive(Clone, Copy)]
-pub enum RateRead {
-    Unbounded,
-    PerSecond(u64),
-    Refused(u64),
-}
-
-#[derive(Clone, Copy)]
-pub enum BoundedRead {
-    Bounded,
-    Unbounded,
-    Refused(u64),
-}
-
-// Of a report: how many bytes were written.
-#[derive(Clone, Copy)]
-pub enum Written {
-    Bytes(usize),
-    Refused(u64),
-}
-
-// ---- choices and times
-
-fn both(a: bool, b: bool) -> bool
-    ensures { result ≡ a && b }
-{
-    if a { b } else { false }
-}
-
-fn either(a: bool, b: bool) -> bool
-    ensures { result ≡ (a || b) }
-{
-    if a { true } else { b }
 }
 
 // ---- the questions
 
+fn both(a: bool, b: bool) -> bool
+    ensures { result ≡ a && b }
+{
+    a && b
+}
+
 // Questions 1 and 2 are asked at a start, and the same of a head in question 3.
+#[tactic(auto, unfolding(crate::specs::Questions::is_rate))]
 fn is_rate(r: u64) -> bool
     ensures { result ≡ asked.is_rate r }
 {
-    if 1 <= r { r <= RATE_MOST } else { false }
+    1 <= r && r <= RATE_MOST
 }
 
+#[tactic(auto, unfolding(crate::specs::Questions::is_max))]
 fn is_max(r: u64) -> bool
     ensures { result ≡ asked.is_max r }
 {
@@ -214,6 +170,7 @@ pub fn is_unbounded(xs: [u64; DIMS]) -> bool
 }
 
 // A stamp of 53 bits; question 6.
+#[tactic(auto, unfolding(crate::specs::Questions::is_stamp))]
 fn is_stamp(t: u64) -> bool
     ensures { result ≡ asked.is_stamp t }
 {
@@ -233,114 +190,98 @@ fn costs_held(xs: [u64; DIMS]) -> bool
     ok
 }
 
+#[tactic(auto, unfolding(crate::specs::Questions::tables_whole))]
 fn tables_whole(remaining: usize, next: usize) -> bool
     ensures { result ≡ asked.tables_whole remaining next }
 {
-    if remaining <= TABLES {
-        if next <= TABLES {
-            if remaining + next == TABLES {
-                return true;
-            }
-            return remaining + next == 0;
-        }
-    }
-    false
+    remaining <= TABLES && next <= TABLES && (remaining + next == TABLES || remaining + next == 0)
 }
 
+#[tactic(auto, unfolding(crate::specs::Questions::rooms_whole))]
 fn rooms_whole(unit_room: usize, counted_room: usize, tracked: usize, counted: usize) -> bool
     ensures { result ≡ asked.rooms_whole unit_room counted_room tracked counted }
 {
-    if unit_room < 1 {
-        return false;
-    }
-    if UNITS_TRACKED < unit_room {
-        return false;
-    }
-    if counted_room < 2 {
-        return false;
-    }
-    if SOURCE_RECORDS < counted_room {
-        return false;
-    }
-    if unit_room < tracked {
-        return false;
-    }
-    counted < counted_room
+    1 <= unit_room
+        && unit_room <= UNITS_TRACKED
+        && 2 <= counted_room
+        && counted_room <= SOURCE_RECORDS
+        && tracked <= unit_room
+        && counted < counted_room
 }
 
+#[tactic(auto, unfolding(crate::specs::Questions::stamps_whole))]
 fn stamps_whole(a: u64, b: u64, c: u64, d: u64) -> bool
     ensures { result ≡ asked.stamps_whole a b c d }
 {
-    both(
-        both(is_stamp(a), is_stamp(b)),
-        both(is_stamp(c), is_stamp(d)),
-    )
+    is_stamp(a) && is_stamp(b) && is_stamp(c) && is_stamp(d)
+}
+
+// Question 1.
+fn rates_whole(rate: [u64; DIMS]) -> bool
+    ensures { result ≡ asked.rates_whole rate }
+{
+    is_unbounded(rate) || all_rates(rate)
 }
 
 // Question 3.
+#[tactic(auto, unfolding(crate::specs::Questions::head_whole))]
 pub fn head_whole(h: Shedder) -> bool
     ensures { result ≡ asked.head_whole h }
 {
-    let f = h.flow;
-    let s = h.scan;
-    let rate = f.rate;
-    let rates = either(is_unbounded(rate), all_rates(rate));
-    let stamps = stamps_whole(f.at_ms, s.at_ms, s.began_ms, s.read_ms);
-    let tables = tables_whole(s.remaining, s.next);
-    let rooms = rooms_whole(h.unit_room, h.counted_room, h.tracked, h.counted);
-    both(both(rates, stamps), both(tables, rooms))
+    rates_whole(h.flow.rate)
+        && stamps_whole(h.flow.at_ms, h.scan.at_ms, h.scan.began_ms, h.scan.read_ms)
+        && tables_whole(h.scan.remaining, h.scan.next)
+        && rooms_whole(h.unit_room, h.counted_room, h.tracked, h.counted)
 }
 
 // A tag for each record, those of the counted records behind those of the unit records.
+#[tactic(auto, unfolding(crate::specs::Questions::tags_whole))]
 fn tags_whole(tags: usize, units: usize, counted: usize) -> bool
     ensures { result ≡ asked.tags_whole tags units counted }
 {
-    if tags < units {
-        return false;
-    }
-    tags - units == counted
+    units <= tags && tags - units == counted
 }
 
 // Question 4.
+#[tactic(auto, unfolding(crate::specs::Questions::memory_whole))]
 pub fn memory_whole(h: Shedder, tags: usize, units: usize, uses: usize, counted: usize) -> bool
     ensures { result ≡ asked.memory_whole h tags units uses counted }
 {
-    if tags_whole(tags, units, counted) {
-        if units == h.unit_room {
-            if uses == h.unit_room {
-                return counted == h.counted_room;
-            }
-        }
-    }
-    false
+    tags_whole(tags, units, counted)
+        && units == h.unit_room
+        && uses == h.unit_room
+        && counted == h.counted_room
 }
 
 // Question 2.
+#[tactic(auto, unfolding(crate::specs::Questions::sizes_whole))]
 fn sizes_whole(tags: usize, units: usize, uses: usize, counted: usize) -> bool
     ensures { result ≡ asked.sizes_whole tags units uses counted }
 {
-    if tags_whole(tags, units, counted) {
-        if uses == units {
-            return rooms_whole(units, counted, 0, 0);
-        }
-    }
-    false
+    tags_whole(tags, units, counted) && uses == units && rooms_whole(units, counted, 0, 0)
 }
 
-// The number of the first question answered no, else 0.
-fn start_asked(rate: [u64; DIMS], tags: usize, units: usize, uses: usize, counted: usize) -> u64
-    ensures { result ≡ asked.start_asked rate tags units uses counted }
+// The questions of a call in their order; the first answered no refuses it.
+#[tactic(auto, unfolding(crate::specs::Questions::start_asked, crate::specs::Answers::answer_number, crate::specs::Answers::number_of))]
+fn start_asked(
+    rate: [u64; DIMS],
+    tags: usize,
+    units: usize,
+    uses: usize,
+    counted: usize,
+) -> Result<(), Refusal>
+    ensures { answers.answer_number result ≡ asked.start_asked rate tags units uses counted }
 {
-    if either(is_unbounded(rate), all_rates(rate)) {
-        if sizes_whole(tags, units, uses, counted) {
-            return 0;
-        }
-        return 2;
+    if !rates_whole(rate) {
+        return Err(Refusal::Rates);
     }
-    1
+    if !sizes_whole(tags, units, uses, counted) {
+        return Err(Refusal::Sizes);
+    }
+    Ok(())
 }
 
-// The number of the first question answered no, else 0.
+#[tactic(auto, unfolding(crate::specs::Questions::judge_asked, crate::specs::Questions::cut_asked, crate::specs::Answers::answer_number, crate::specs::Answers::number_of))]
 pub fn judge_asked(
     h: Shedder,
     tags: usize,
@@ -349,25 +290,17 @@ pub fn judge_asked(
     counted: usize,
     cost: [u64; DIMS],
     stamp: u64,
-) -> u64
-    ensures { result ≡ asked.judge_asked h tags units uses counted cost stamp }
+) -> Result<(), Refusal>
+    ensures { answers.answer_number result ≡ asked.judge_asked h tags units uses counted cost stamp }
 {
-    if head_whole(h) {
-        if memory_whole(h, tags, units, uses, counted) {
-            if costs_held(cost) {
-                if is_stamp(stamp) {
-                    return 0;
-                }
-                return 6;
-            }
-            return 5;
-        }
-        return 4;
+    cut_asked(h, tags, units, uses, counted, cost)?;
+    if !is_stamp(stamp) {
+        return Err(Refusal::Stamp);
     }
-    3
+    Ok(())
 }
 
-// The number of the first question answered no, else 0.
+#[tactic(auto, unfolding(crate::specs::Questions::cut_asked, crate::specs::Questions::read_asked, crate::specs::Answers::answer_number, crate::specs::Answers::number_of))]
 pub fn cut_asked(
     h: Shedder,
     tags: usize,
@@ -375,19 +308,27 @@ pub fn cut_asked(
     uses: usize,
     counted: usize,
     cost: [u64; DIMS],
-) -> u64
-    ensures { result ≡ asked.cut_asked h tags units uses counted cost }
+) -> Result<(), Refusal>
+    ensures { answers.answer_number result ≡ asked.cut_asked h tags units uses counted cost }
 {
-    if head_whole(h) {
-        if memory_whole(h, tags, units, uses, counted) {
-            if costs_held(cost) {
-                return 0;
-            }
-            return 5;
-        }
-        return 4;
+    read_asked(h)?;
+    if !memory_whole(h, tags, units, uses, counted) {
+        return Err(Refusal::Memory);
     }
-    3
+    if !costs_held(cost) {
+        return Err(Refusal::Cost);
+    }
+    Ok(())
+}
+
+#[tactic(auto, unfolding(crate::specs::Questions::read_asked, crate::specs::Answers::answer_number, crate::specs::Answers::number_of))]
+pub fn read_asked(h: Shedder) -> Result<(), Refusal>
+    ensures { answers.answer_number result ≡ asked.read_asked h }
+{
+    if !head_whole(h) {
+        return Err(Refusal::Head);
+    }
+    Ok(())
 }
 
 // ---- the start
@@ -423,41 +364,33 @@ fn first_levels(rate: [f64; DIMS]) -> [f64; DIMS]
 }
 
 // The head at a start.
+#[tactic(auto, unfolding(crate::specs::Start::opening))]
 fn opening(rate: [u64; DIMS], ceiling: [u64; DIMS], units: usize, counted: usize) -> Shedder
     ensures { result ≡ starts.opening rate ceiling units counted }
 {
-    let bs = buckets(rate, ceiling);
-    let level = first_levels(flow::numbers(rate));
-    let nothing = [0.0; DIMS];
-    let whole = [1.0; DIMS];
-    let endless = [1.0 / 0.0; DIMS];
-    let none = [0u64; CAUSES];
-    let flow = Flow {
-        rate,
-        ceiling,
-        buckets: bs,
-        at_ms: 0,
-        admitted: nothing,
-    };
-    let scan = Scan {
-        remaining: 0,
-        next: 0,
-        at_ms: 0,
-        began_ms: 0,
-        trim: whole,
-        open: endless,
-        read_ms: 0,
-        read_admitted: nothing,
-    };
-    let overflow = Use::new(0);
     Shedder {
-        flow,
-        overflow,
-        scan,
+        flow: Flow {
+            rate,
+            ceiling,
+            buckets: buckets(rate, ceiling),
+            at_ms: 0,
+            admitted: [0.0; DIMS],
+        },
+        overflow: Use::new(0),
+        scan: Scan {
+            remaining: 0,
+            next: 0,
+            at_ms: 0,
+            began_ms: 0,
+            trim: [1.0; DIMS],
+            open: [f64::INFINITY; DIMS],
+            read_ms: 0,
+            read_admitted: [0.0; DIMS],
+        },
         visits: 0,
-        level,
-        batches: none,
-        receptions: none,
+        level: first_levels(flow::numbers(rate)),
+        batches: [0; CAUSES],
+        receptions: [0; CAUSES],
         tracked: 0,
         counted: 0,
         unit_room: units,
@@ -484,24 +417,23 @@ pub fn start(
     ensures answer_value { answers.start_number result.answer
         ≡ asked.start_asked rate (length tags.now) (length units.now) (length uses.now) (length counted.now) }
 {
-    let no = start_asked(rate, tags.len(), units.len(), uses.len(), counted.len());
-    if no != 0 {
+    if let Err(refusal) = start_asked(rate, tags.len(), units.len(), uses.len(), counted.len()) {
         return Starting {
-            answer: Begin::Refused(no),
+            answer: Err(refusal),
             head,
         };
     }
     wants::clear(counts, sums);
-    let h = opening(rate, ceiling, units.len(), counted.len());
     Starting {
-        answer: Begin::Started,
-        head: h,
+        answer: Ok(()),
+        head: opening(rate, ceiling, units.len(), counted.len()),
     }
 }
 
 // ---- the causes
 
 // A cause's place among the counts.
+#[tactic(auto, unfolding(crate::specs::Readings::index_of))]
 pub fn index_of(cause: Cause) -> usize
     ensures value { result ≡ readings.index_of cause }
     ensures upper_bound { result < store.«CAUSES» }

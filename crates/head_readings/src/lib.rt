@@ -9,9 +9,7 @@ ghost use Rattle.head.specs.Readings as readings;
 ghost use Rattle.head.specs.Bits.{SameButNanBits};
 
 use flow::Dim;
-use head::{
-    BoundedRead, Cause, LevelRead, RateRead, Reading, Shedder, head_whole, index_of, is_unbounded,
-};
+use head::{Cause, Refusal, Shedder, index_of, is_unbounded, read_asked};
 
 // A dimension's place.
 fn dim_of(dim: Dim) -> usize
@@ -25,71 +23,54 @@ fn dim_of(dim: Dim) -> usize
 }
 
 // Tables that all scans have visited.
-pub fn visited(head: Shedder) -> Reading
+#[tactic(auto, using(head::proofs::Reading::read_refused, head::proofs::Reading::read_answered), unfolding(head::specs::Readings::visited, head::specs::Answers::answer_number))]
+pub fn visited(head: Shedder) -> Result<u64, Refusal>
     ensures value { result ≡ readings.visited head }
     ensures result_value { answers.reading_number result ≡ asked.read_asked head }
 {
-    if head_whole(head) {
-        return Reading::Whole(head.visits);
-    }
-    Reading::Refused(3)
+    read_asked(head)?;
+    Ok(head.visits)
 }
 
 // Batches cut for a cause so far.
-pub fn cut_batches(head: Shedder, cause: Cause) -> Reading
+#[tactic(auto, using(head::proofs::Reading::read_refused, head::proofs::Reading::read_answered), unfolding(head::specs::Readings::cut_batches, head::specs::Answers::answer_number))]
+pub fn cut_batches(head: Shedder, cause: Cause) -> Result<u64, Refusal>
     ensures value { result ≡ readings.cut_batches head cause }
     ensures result_value { answers.reading_number result ≡ asked.read_asked head }
 {
-    if head_whole(head) {
-        let b = head.batches;
-        let i = index_of(cause);
-        return Reading::Whole(b[i]);
-    }
-    Reading::Refused(3)
+    read_asked(head)?;
+    Ok(head.batches[index_of(cause)])
 }
 
 // The level of a dimension, as the last scan left it.
-pub fn level(head: Shedder, dim: Dim) -> LevelRead
+#[tactic(auto, using(head::proofs::Reading::read_refused, head::proofs::Reading::read_answered), unfolding(head::specs::Readings::level_read, head::specs::Answers::answer_number))]
+pub fn level(head: Shedder, dim: Dim) -> Result<f64, Refusal>
     ensures same_but_nan_bits { SameButNanBits result (readings.level_read head dim) }
     ensures result_value { answers.level_number result ≡ asked.read_asked head }
 {
-    if head_whole(head) {
-        let l = head.level;
-        let d = dim_of(dim);
-        return LevelRead::Level(l[d]);
-    }
-    LevelRead::Refused(3)
+    read_asked(head)?;
+    Ok(head.level[dim_of(dim)])
 }
 
-// The rate of a dimension, given at the start.
-pub fn rate(head: Shedder, dim: Dim) -> RateRead
+// The rate of a dimension, given at the start; none for an unbounded relay.
+#[tactic(auto, using(head::proofs::Reading::read_refused, head::proofs::Reading::read_answered), unfolding(head::specs::Readings::rate_read, head::specs::Answers::answer_number))]
+pub fn rate(head: Shedder, dim: Dim) -> Result<Option<u64>, Refusal>
     ensures value { result ≡ readings.rate_read head dim }
     ensures result_value { answers.rate_number result ≡ asked.read_asked head }
 {
-    if head_whole(head) {
-        let f = head.flow;
-        let all = f.rate;
-        if is_unbounded(all) {
-            return RateRead::Unbounded;
-        }
-        let d = dim_of(dim);
-        return RateRead::PerSecond(all[d]);
+    read_asked(head)?;
+    if is_unbounded(head.flow.rate) {
+        return Ok(None);
     }
-    RateRead::Refused(3)
+    Ok(Some(head.flow.rate[dim_of(dim)]))
 }
 
 // Whether the relay sheds for its rate at all.
-pub fn is_bounded(head: Shedder) -> BoundedRead
+#[tactic(auto, using(head::proofs::Reading::read_refused, head::proofs::Reading::read_answered), unfolding(head::specs::Readings::is_bounded, head::specs::Answers::answer_number))]
+pub fn is_bounded(head: Shedder) -> Result<bool, Refusal>
     ensures value { result ≡ readings.is_bounded head }
     ensures result_value { answers.bounded_number result ≡ asked.read_asked head }
 {
-    if head_whole(head) {
-        let f = head.flow;
-        let rate = f.rate;
-        if is_unbounded(rate) {
-            return BoundedRead::Unbounded;
-        }
-        return BoundedRead::Bounded;
-    }
-    BoundedRead::Refused(3)
+    read_asked(head)?;
+    Ok(!is_unbounded(head.flow.rate))
 }

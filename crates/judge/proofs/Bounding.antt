@@ -10,8 +10,7 @@ use Rattle.sender.specs.Sender.{name_of}
 use Rattle.store.specs.Store.{Rows, rows}
 use Rattle.wants.specs.Wants.{Hist}
 use Rattle.head.specs.declared.Shedder.{Shedder}
-use Rattle.head.specs.declared.Answer.{Answer}
-use Rattle.head.specs.declared.Ruling.TheVariants.{Ruled}
+use Rattle.std.proofs.Common.{Some}
 use Rattle.verdict.specs.declared.Rule.{Rule}
 use Rattle.scan.specs.Scanning.{scanning, scanned}
 use Rattle.cut_counts.specs.Counting.{tally, count_verdict}
@@ -19,19 +18,17 @@ use Rattle.judge.specs.declared.Passed.{Passed}
 use Rattle.judge.specs.Judging.{passed, judged, answer_of, memory, judge_ends, bounded_scanned, bounded_counted, bounded_passed, bounded, ruled, bounded_ruling}
 
 pub bounded_is : (h : Shedder) (m : Rows) (g : Hist) (k : List (List ℕ)) (u : Unit) (cost : List ℕ) (stamp : ℕ)
-    (clock : ℕ) (paid : List Float) (p : Passed) (i1 : List ℕ) (u1 : List (List ℕ)) (s1 : List (List Float)) (n : Name) (t : Shedder) (i2 : List ℕ) (k1 : List (List ℕ)) (s : Shedder) (m2 : Rows) (g1 : Hist) (a : Answer)
+    (clock : ℕ) (paid : List Float) (p : Passed) (i1 : List ℕ) (u1 : List (List ℕ)) (s1 : List (List Float)) (n : Name) (t : Shedder) (i2 : List ℕ) (k1 : List (List ℕ)) (s : Shedder) (m2 : Rows) (g1 : Hist)
     → clock ≡ max stamp h.flow.at_ms
     → paid ≡ numbers cost
     → passed p (rows i1 u1 s1) ≡ judged h m u paid clock
     → n ≡ name_of u
     → tally t i2 k1 ≡ count_verdict (tally p.head i1 k) n p.verdict cost
     → scanning s m2 g1 ≡ scanned (scanning t (rows i2 u1 s1) g) clock
-    → a ≡ answer_of p.verdict
-    → judge_ends a s (memory m2 g1 k1) ≡ bounded h (memory m g k) u cost stamp
+    → judge_ends (answer_of p.verdict) s (memory m2 g1 k1) ≡ bounded h (memory m g k) u cost stamp
 unfolding bounded
-bounded_is h m g k u cost stamp clock paid p i1 u1 s1 n t i2 k1 s m2 g1 a eC eN eP eW eT eS eA =
-    ap (λ (a : Answer). judge_ends a s (memory m2 g1 k1)) eA
-    ∙ ap (bounded_scanned (answer_of p.verdict) k1) eS
+bounded_is h m g k u cost stamp clock paid p i1 u1 s1 n t i2 k1 s m2 g1 eC eN eP eW eT eS =
+    ap (bounded_scanned (answer_of p.verdict) k1) eS
     ∙ ap (bounded_counted g clock (passed p (rows i1 u1 s1))) (eT ∙ ap (λ (n : Name). count_verdict (tally p.head i1 k) n p.verdict cost) eW)
     ∙ ap (bounded_passed (memory m g k) u cost clock) eP
     ∙ ap (λ (c : List Float). bounded_passed (memory m g k) u cost clock (judged h m u c clock)) eN
@@ -42,7 +39,7 @@ pub ruling_is : (h : Shedder) (m : Rows) (u : Unit) (cost : List ℕ) (stamp : �
     → clock ≡ max stamp h.flow.at_ms
     → paid ≡ numbers cost
     → q ≡ ruled h m u paid clock
-    → Ruled q ≡ bounded_ruling h m u cost stamp
+    → Some q ≡ bounded_ruling h m u cost stamp
 unfolding bounded_ruling
 ruling_is h m u cost stamp clock paid q eC eN eQ =
-    ap Ruled (eQ ∙ ap (λ (c : List Float). ruled h m u c clock) eN ∙ ap (ruled h m u (numbers cost)) eC)
+    ap Some (eQ ∙ ap (λ (c : List Float). ruled h m u c clock) eN ∙ ap (ruled h m u (numbers cost)) eC)

@@ -1,5 +1,5 @@
 -- A judgement: the questions, the record, the verdict, the counts, the scan. Definitions only.
-use Rattle.std.specs.Prelude.{ℕ, ◌-◌, max, cond, List, eqb, ltb, length, Float}
+use Rattle.std.specs.Prelude.{ℕ, ◌-◌, max, cond, List, eqb, ltb, length, Float, Option, Some, None, Result, Ok}
 use Rattle.ieee.specs.Doubles.{◌⊕◌, nothing}
 use Rattle.flow.specs.Flow as flow
 use Rattle.verdict.specs.Verdict as verdicts
@@ -19,10 +19,8 @@ use Rattle.store.specs.Store.{Rows, rows}
 use Rattle.wants.specs.Wants.{Hist}
 use Rattle.head.specs.declared.Flow.{Flow}
 use Rattle.head.specs.declared.Shedder.{Shedder}
-use Rattle.head.specs.declared.Answer.{Answer}
-use Rattle.head.specs.declared.Answer.TheVariants as answer
-use Rattle.head.specs.declared.Ruling.{Ruling}
-use Rattle.head.specs.declared.Ruling.TheVariants.{Refused, Ruled}
+use Rattle.head.specs.declared.Refusal.{Refusal}
+use Rattle.head.specs.Answers.{refused}
 use Rattle.judge.specs.declared.Passed.{Passed}
 use Rattle.judge.specs.declared.Judgement.{Judgement}
 use Rattle.head.specs.Questions.{is_unbounded, judge_asked}
@@ -103,24 +101,22 @@ memory m g rows = record { rows = m; hist = g; counted = rows }
 
 -- an answer, the head and the memory
 pub record Judged : Type 0 where
-  pub answer : Answer
+  pub answer : Result Verdict Refusal
   pub head : Shedder
   pub memory : Memory
 
 abbrev pub judgement : Judgement → Memory → Judged
 judgement j m = record { answer = j.answer; head = j.head; memory = m }
 
-abbrev pub judge_ends : Answer → Shedder → Memory → Judged
+abbrev pub judge_ends : Result Verdict Refusal → Shedder → Memory → Judged
 judge_ends a h m = record { answer = a; head = h; memory = m }
 
 -- a verdict as an answer
-unfoldable pub answer_of : Verdict → Answer
-answer_of verdict.Admitted = answer.Admitted
-answer_of verdict.OverShare = answer.OverShare
-answer_of verdict.RelayRate = answer.RelayRate
+unfoldable pub answer_of : Verdict → Result Verdict Refusal
+answer_of v = Ok v
 
 -- the answer, once the scan was made
-abbrev pub bounded_scanned : Answer → List (List ℕ) → Scanning → Judged
+abbrev pub bounded_scanned : Result Verdict Refusal → List (List ℕ) → Scanning → Judged
 bounded_scanned a counted s = judge_ends a s.head (memory s.rows s.hist counted)
 
 -- the scan, once the cut was counted
@@ -139,14 +135,14 @@ bounded h m u cost stamp = bounded_passed m u cost (max stamp h.flow.at_ms) (jud
 unfoldable pub judge : Shedder → Memory → unit.Unit → List ℕ → ℕ → Judged
 judge h m u cost stamp =
     cond (eqb (judge_asked h (length m.rows.tags) (length m.rows.units) (length m.rows.uses) (length m.counted) cost stamp) 0)
-    (cond (is_unbounded h.flow.rate) (judge_ends answer.Admitted h m) (bounded h m u cost stamp))
-    (judge_ends (answer.Refused (judge_asked h (length m.rows.tags) (length m.rows.units) (length m.rows.uses) (length m.counted) cost stamp)) h m)
+    (cond (is_unbounded h.flow.rate) (judge_ends (Ok verdict.Admitted) h m) (bounded h m u cost stamp))
+    (judge_ends (refused (judge_asked h (length m.rows.tags) (length m.rows.units) (length m.rows.uses) (length m.counted) cost stamp)) h m)
 
 -- ---- THE RULE that decides it (document 02, K1): a refused judgement has none; an unbounded relay admits with a want of 0
-unfoldable pub bounded_ruling : Shedder → Rows → unit.Unit → List ℕ → ℕ → Ruling
-bounded_ruling h m u cost stamp = Ruled (ruled h m u (flow.numbers cost) (max stamp h.flow.at_ms))
+unfoldable pub bounded_ruling : Shedder → Rows → unit.Unit → List ℕ → ℕ → Option Rule
+bounded_ruling h m u cost stamp = Some (ruled h m u (flow.numbers cost) (max stamp h.flow.at_ms))
 
-unfoldable pub ruling : Shedder → Memory → unit.Unit → List ℕ → ℕ → Ruling
+unfoldable pub ruling : Shedder → Memory → unit.Unit → List ℕ → ℕ → Option Rule
 ruling h m u cost stamp =
     cond (eqb (judge_asked h (length m.rows.tags) (length m.rows.units) (length m.rows.uses) (length m.counted) cost stamp) 0)
-    (cond (is_unbounded h.flow.rate) (Ruled (rule_kind.Admitted nothing)) (bounded_ruling h m.rows u cost stamp)) Refused
+    (cond (is_unbounded h.flow.rate) (Some (rule_kind.Admitted nothing)) (bounded_ruling h m.rows u cost stamp)) None

@@ -11,17 +11,17 @@ ghost use Rattle.head.specs.Bits.{SameButNanBits};
 ghost use Rattle.judge.specs.Judging as judging;
 
 use flow::{DIMS, Use};
-use head::{Answer, Flow, Ruling, Shedder};
+use head::{Flow, Refusal, Shedder};
 use sender::{Name, Unit};
 use store::{SourceRow, UnitRow, UseRow};
 use verdict::{Outcome, Rule, Ruled, Verdict};
 use wants::{Counts, Sums};
 
-// What a judgement answers, the rule that decided it, and the head after it.
+// What a judgement answers, the rule that decided it (none where it was refused), and the head after it.
 #[derive(Clone, Copy)]
 pub struct Judgement {
-    pub answer: Answer,
-    pub ruling: Ruling,
+    pub answer: Result<Verdict, Refusal>,
+    pub ruling: Option<Rule>,
     pub head: Shedder,
 }
 
@@ -54,11 +54,9 @@ fn ruled(f: Flow, level: [f64; DIMS], used: Use, rank: f64, cost: [f64; DIMS], c
     ensures outcome_value { result.outcome ≡ judging.outcome f level used rank cost clock }
     ensures rule_value { result.rule ≡ judging.rule f level used rank cost clock }
 {
-    let buckets = f.buckets;
-    let rate = f.rate;
-    let fill = flow::fills(level, flow::numbers(rate));
+    let fill = flow::fills(level, flow::numbers(f.rate));
     verdict::judged(
-        buckets,
+        f.buckets,
         used,
         clock,
         flow::since(clock, f.at_ms),
@@ -84,19 +82,13 @@ fn admitted_then(verdict: Verdict, admitted: [f64; DIMS], cost: [f64; DIMS]) -> 
 fn flowed(f: Flow, o: Outcome, cost: [f64; DIMS], clock: u64) -> Flow
     ensures { result ≡ judging.flowed f o cost clock }
 {
-    let rate = f.rate;
-    let ceiling = f.ceiling;
     let buckets = o.buckets;
-    let verdict = o.verdict;
-    let was = f.admitted;
-    let admitted = admitted_then(verdict, was, cost);
-    Flow {
-        rate,
-        ceiling,
-        buckets,
-        at_ms: clock,
-        admitted,
-    }
+    let admitted = admitted_then(o.verdict, f.admitted, cost);
+    let mut flow = f;
+    flow.buckets = buckets;
+    flow.at_ms = clock;
+    flow.admitted = admitted;
+    flow
 }
 
 // A verdict, its rule, and the head after it.
@@ -135,40 +127,22 @@ fn judged(
     ensures scan_value { result.head.scan ≡ head.scan }
     ensures rule_value { result.rule ≡ judging.ruled head (store.rows tags.old units.old uses.old) unit cost clock }
 {
-    let f = head.flow;
-    let level = head.level;
     let room = head.unit_room;
-    let overflow = head.overflow;
     let p = store_entry::entry(tags, units, uses, head.tracked, room, unit, name, i, clock);
-    let at = p.at;
-    let used = store_entry::used_at(units, uses, overflow, at);
-    let r = ruled(f, level, used, rank_at(hash, at, room), cost, clock);
-    let o = r.outcome;
-    let next = o.used;
-    let shared = store_entry::put_back(units, uses, overflow, at, next);
-    let flow = flowed(f, o, cost, clock);
-    let mut h = head;
-    h.flow = flow;
-    h.overflow = shared;
-    h.tracked = p.tracked;
-    let verdict = o.verdict;
-    let rule = r.rule;
+    let used = store_entry::used_at(units, uses, head.overflow, p.at);
+    let rank = rank_at(hash, p.at, room);
+    let r = ruled(head.flow, head.level, used, rank, cost, clock);
+    let overflow = store_entry::put_back(units, uses, head.overflow, p.at, r.outcome.used);
+    let flow = flowed(head.flow, r.outcome, cost, clock);
     Passed {
-        verdict,
-        rule,
-        head: h,
-    }
-}
-
-// A verdict as an answer.
-fn answer_of(verdict: Verdict) -> Answer
-    ensures value { result ≡ judging.answer_of verdict }
-    ensures result_value { answers.judge_number result ≡ 0 }
-{
-    match verdict {
-        Verdict::Admitted => Answer::Admitted,
-        Verdict::OverShare => Answer::OverShare,
-        Verdict::RelayRate => Answer::RelayRate,
+        verdict: r.outcome.verdict,
+        rule: r.rule,
+        head: Shedder {
+            flow,
+            overflow,
+            tracked: p.tracked,
+            ..head
+        },
     }
 }
 
@@ -199,8 +173,7 @@ fn bounded(
     ensures answer_value { answers.judge_number result.answer ≡ 0 }
     ensures ruling_value { result.ruling ≡ judging.bounded_ruling head (store.rows tags.old units.old uses.old) unit cost stamp }
 {
-    let f = head.flow;
-    let clock = flow::later(stamp, f.at_ms);
+    let clock = flow::later(stamp, head.flow.at_ms);
     let p = judged(
         head,
         tags,
@@ -213,15 +186,11 @@ fn bounded(
         flow::numbers(cost),
         clock,
     );
-    let h = p.head;
-    let verdict = p.verdict;
-    let rule = p.rule;
-    let t = cut_counts::count_verdict(h, tags, counted, name, verdict, cost);
+    let t = cut_counts::count_verdict(p.head, tags, counted, name, p.verdict, cost);
     let s = scan::scanned(t, tags, units, uses, counts, sums, clock);
-    let answer = answer_of(verdict);
     Judgement {
-        answer,
-        ruling: Ruling::Ruled(rule),
+        answer: Ok(p.verdict),
+        ruling: Some(p.rule),
         head: s,
     }
 }
@@ -250,7 +219,7 @@ pub fn judge(
         (judging.ruling head
         (judging.memory (store.rows tags.old units.old uses.old) (wants.hist counts.old sums.old) counted.old) unit cost stamp) }
 {
-    let no = head::judge_asked(
+    if let Err(refusal) = head::judge_asked(
         head,
         tags.len(),
         units.len(),
@@ -258,20 +227,17 @@ pub fn judge(
         counted.len(),
         cost,
         stamp,
-    );
-    if no != 0 {
+    ) {
         return Judgement {
-            answer: Answer::Refused(no),
-            ruling: Ruling::Refused,
+            answer: Err(refusal),
+            ruling: None,
             head,
         };
     }
-    let f = head.flow;
-    let rate = f.rate;
-    if head::is_unbounded(rate) {
+    if head::is_unbounded(head.flow.rate) {
         return Judgement {
-            answer: Answer::Admitted,
-            ruling: Ruling::Ruled(Rule::Admitted(0.0)),
+            answer: Ok(Verdict::Admitted),
+            ruling: Some(Rule::Admitted(0.0)),
             head,
         };
     }

@@ -11,10 +11,9 @@ use Rattle.sender.specs.Sender.{name_of}
 use Rattle.head.specs.declared.Shedder.{Shedder}
 use Rattle.head.specs.declared.Cause.{Cause}
 use Rattle.flow.specs.declared.Dim.{Dim}
-use Rattle.head.specs.declared.Begin.TheVariants as begin
-use Rattle.head.specs.declared.Answer.TheVariants as answer
-use Rattle.head.specs.declared.Done.TheVariants as done
-use Rattle.head.specs.declared.Written.TheVariants as written
+use Rattle.std.proofs.Common.{Ok}
+use Rattle.verdict.specs.declared.Verdict.TheVariants as verdict
+use Rattle.head.specs.Answers.{refusal_of as refusal_by, refused}
 use Rattle.head.specs.Questions as asked
 use Rattle.head.specs.Start as starts
 use Rattle.head.specs.Readings as readings
@@ -36,7 +35,7 @@ start_is : (h : Shedder) (m : Memory) (rate ceiling : List ℕ) → page.start (
 unfolding page.start page.opened starts.start starts.opening starts.buckets starts.first_levels asked.start_asked
 start_is h m rate ceiling = rw (rates_is rate, sizes_is (of h m)) (go (asked.rates_whole rate) (asked.sizes_whole (length m.rows.tags) (length m.rows.units) (length m.rows.uses) (length m.counted)) _)
   where
-    go : (a b : Bool) (x : starts.Beginning) → ask ((1, a) ∷ (2, b) ∷ []) (λ n. after (begin.Refused n) (of h m)) (started m x) ≡ started m (cond (eqb (cond a (cond b 0 2) 1) 0) x (starts.start_ends (begin.Refused (cond a (cond b 0 2) 1)) h m.hist))
+    go : (a b : Bool) (x : starts.Beginning) → ask ((1, a) ∷ (2, b) ∷ []) (λ n. after (refused n) (of h m)) (started m x) ≡ started m (cond (eqb (cond a (cond b 0 2) 1) 0) x (starts.start_ends (refused (cond a (cond b 0 2) 1)) h m.hist))
     go true true x = refl
     go true false x = refl
     go false b x = refl
@@ -49,8 +48,8 @@ judge_is h m u cost stamp =
     rw (head_is h, memory_is s, costs_is cost, stamp_is stamp, unbounded_is h.flow.rate, bounded_is h m u cost stamp)
     (go (asked.head_whole h) (memory_whole h m) (asked.costs_held cost) (asked.is_stamp stamp) (asked.is_unbounded h.flow.rate) (judging.bounded h m u cost stamp))
   where
-    go : (a b c d e : Bool) (x : judging.Judged) → ask ((3, a) ∷ (4, b) ∷ (5, c) ∷ (6, d) ∷ []) (λ n. after (answer.Refused n) (of h m)) (cond e (after answer.Admitted (of h m)) (judged x))
-        ≡ judged (cond (eqb (cond a (cond b (cond c (cond d 0 6) 5) 4) 3) 0) (cond e (judge_ends answer.Admitted h m) x) (judge_ends (answer.Refused (cond a (cond b (cond c (cond d 0 6) 5) 4) 3)) h m))
+    go : (a b c d e : Bool) (x : judging.Judged) → ask ((3, a) ∷ (4, b) ∷ (5, c) ∷ (6, d) ∷ []) (λ n. after (refused n) (of h m)) (cond e (after (Ok verdict.Admitted) (of h m)) (judged x))
+        ≡ judged (cond (eqb (cond a (cond b (cond c (cond d 0 6) 5) 4) 3) 0) (cond e (judge_ends (Ok verdict.Admitted) h m) x) (judge_ends (refused (cond a (cond b (cond c (cond d 0 6) 5) 4) 3)) h m))
     go true true true true true x = refl
     go true true true true false x = refl
     go true true true false e x = refl
@@ -72,13 +71,13 @@ cut_is h m u c cost =
     counted : cutting.KeptBy → cutting.Cut
     counted k = cutting.cut_after m.counted u c cost k
 
-    one : (k : cutting.KeptBy) → after done.Counted (page.counted (kept (of h m) k) (name_of u) (index_of c) (get_or cost 0 0)) ≡ cut m.hist (counted k)
+    one : (k : cutting.KeptBy) → after (Ok tt) (page.counted (kept (of h m) k) (name_of u) (index_of c) (get_or cost 0 0)) ≡ cut m.hist (counted k)
     one k = rw (counted_is (kept (of h m) k) (name_of u) (index_of c) (get_or cost 0 0)) refl
 
-    go : (a b c' e : Bool) → ask ((3, a) ∷ (4, b) ∷ (5, c') ∷ []) (λ n. after (done.Refused n) (of h m)) (after done.Counted (page.counted (cond e (kept (of h m) back) (of h m)) (name_of u) (index_of c) (get_or cost 0 0)))
+    go : (a b c' e : Bool) → ask ((3, a) ∷ (4, b) ∷ (5, c') ∷ []) (λ n. after (refused n) (of h m)) (after (Ok tt) (page.counted (cond e (kept (of h m) back) (of h m)) (name_of u) (index_of c) (get_or cost 0 0)))
         ≡ cut m.hist (cond (eqb (cond a (cond b (cond c' 0 5) 4) 3) 0)
         (cond e (counted back) (counted (cutting.kept_by h m.rows)))
-        (cutting.cut_ends (done.Refused (cond a (cond b (cond c' 0 5) 4) 3)) h m.rows m.counted))
+        (cutting.cut_ends (refused (cond a (cond b (cond c' 0 5) 4) 3)) h m.rows m.counted))
     go true true true true = one back
     go true true true false = one (cutting.kept_by h m.rows)
     go true true false e = refl
@@ -94,9 +93,9 @@ module _ (h : Shedder) (m : Memory) (out : List ℕ) where
   asks a b c = cond a (cond b (cond c 0 7) 4) 3
 
   answered : (a b c : Bool) → page.Reported
-  answered a b c = ask ((3, a) ∷ (4, b) ∷ (7, c) ∷ []) (λ n. record { answer = written.Refused n; front = []; out = out }) (record { answer = written.Bytes (length lines); front = lines; out = lines ++ drop (length lines) out })
+  answered a b c = ask ((3, a) ∷ (4, b) ∷ (7, c) ∷ []) (λ n. record { answer = refused n; front = []; out = out }) (record { answer = Ok (length lines); front = lines; out = lines ++ drop (length lines) out })
 
-  ends_is : (a b c : Bool) → reports.ends (answered a b c).answer (answered a b c).out ≡ cond (eqb (asks a b c) 0) (reports.ends (written.Bytes (length lines)) (lines ++ drop (length lines) out)) (reports.ends (written.Refused (asks a b c)) out)
+  ends_is : (a b c : Bool) → reports.ends (answered a b c).answer (answered a b c).out ≡ cond (eqb (asks a b c) 0) (reports.ends (Ok (length lines)) (lines ++ drop (length lines) out)) (reports.ends (refused (asks a b c)) out)
   unfolding answered asks
   ends_is true true true = refl
   ends_is true true false = refl
@@ -132,23 +131,23 @@ module _ (h : Shedder) (m : Memory) (out : List ℕ) where
 -- ---- readings
 module _ (h : Shedder) where
   visited_is : page.visited h ≡ readings.visited h
-  unfolding page.visited readings.visited
+  unfolding page.visited readings.visited refusal_by
   visited_is = simp head_is
 
   batches_is : (c : Cause) → page.cut_batches h c ≡ readings.cut_batches h c
-  unfolding page.cut_batches readings.cut_batches
+  unfolding page.cut_batches readings.cut_batches refusal_by
   batches_is c = simp head_is
 
   level_is : (d : Dim) → page.level h d ≡ readings.level_read h d
-  unfolding page.level readings.level_read
+  unfolding page.level readings.level_read refusal_by
   level_is d = simp head_is
 
   rate_is : (d : Dim) → page.rate h d ≡ readings.rate_read h d
-  unfolding page.rate readings.rate_read
+  unfolding page.rate readings.rate_read refusal_by
   rate_is d = simp (head_is, unbounded_is)
 
   bounded_reads : page.is_bounded h ≡ readings.is_bounded h
-  unfolding page.is_bounded readings.is_bounded
+  unfolding page.is_bounded readings.is_bounded refusal_by
   bounded_reads = simp (head_is, unbounded_is)
 
 pub agrees : Agrees

@@ -10,15 +10,14 @@ use Rattle.sender.specs.declared.Unit.{Unit}
 use Rattle.sender.specs.Sender.{name_of}
 use Rattle.head.specs.declared.Shedder.{Shedder}
 use Rattle.head.specs.declared.Cause.{Cause}
-use Rattle.head.specs.declared.Ruling.{Ruling}
-use Rattle.head.specs.declared.Ruling.TheVariants as ruling
+use Rattle.std.proofs.Common.{None}
 use Rattle.head.specs.Questions as asked
 use Rattle.head.specs.Readings.{index_of}
 use Rattle.cut_counts.specs.Counting as counting
 use Rattle.judge.specs.Judging as judging
 use Rattle.judge.specs.Judging.{Memory}
 use Rattle.cut.specs.Cutting as cutting
-use Rattle.meaning.specs.State.{ask}
+use Rattle.meaning.specs.State.{Ruling, ask}
 use Rattle.meaning.specs.Page as page
 use Rattle.meaning.specs.Agrees.{of, judged, cut}
 use Rattle.meaning.proofs.Asked.{unbounded_is, stamp_is, costs_is, head_is, memory_is}
@@ -46,7 +45,7 @@ rule_is h m u cost stamp =
     rw (head_is h, memory_is s, costs_is cost, stamp_is stamp, unbounded_is h.flow.rate, ruled_is s u (numbers cost) (max stamp h.flow.at_ms))
     (go (asked.head_whole h) (memory_whole h m) (asked.costs_held cost) (asked.is_stamp stamp) _)
   where
-    go : (a b c d : Bool) (x : Ruling) → ask ((3, a) ∷ (4, b) ∷ (5, c) ∷ (6, d) ∷ []) (λ n. ruling.Refused) x ≡ cond (eqb (cond a (cond b (cond c (cond d 0 6) 5) 4) 3) 0) x ruling.Refused
+    go : (a b c d : Bool) (x : Ruling) → ask ((3, a) ∷ (4, b) ∷ (5, c) ∷ (6, d) ∷ []) (λ n. None) x ≡ cond (eqb (cond a (cond b (cond c (cond d 0 6) 5) 4) 3) 0) x None
     go true true true true x = refl
     go true true true false x = refl
     go true true false d x = refl

@@ -14,9 +14,10 @@ use Rattle.sender.specs.Sender.{rank}
 use Rattle.verdict.specs.declared.Rule.TheVariants as rules
 use Rattle.verdict.specs.Rules.{verdict_of}
 use Rattle.verdict.proofs.Says.{tells, judges}
-use Rattle.head.specs.declared.Answer.TheVariants as answer
-use Rattle.head.specs.declared.Ruling.TheVariants as ruling
-use Rattle.head.specs.Answers.{judge_number}
+use Rattle.std.proofs.Common.{Some, None, Ok, Err}
+use Rattle.verdict.specs.declared.Verdict.TheVariants as verdicts
+use Rattle.head.specs.Answers.{number_of, refusal_of, refused, answer_number, judge_number}
+use Rattle.head.proofs.Numbers.{refusal_back}
 use Rattle.judge.specs.Judging as judging
 use Rattle.judge.specs.Judging.{answer_of}
 use Rattle.meaning.specs.State.{State, After, after, ask, Unit, Use, Flow, Answer, Ruling, Rule}
@@ -63,16 +64,16 @@ judged_verdict s u cost clock = sym (verdict s.head.flow s.head.level (page.used
 
 -- by the questions: the result's law is the call's
 asked : (qs : List (ℕ × Bool)) (s : State) (x : After Answer) (y : Ruling) → x.answer ≡ answer_by (judge_number x.answer) y
-    → (ask qs (λ n. after (answer.Refused n) s) x).answer ≡ answer_by (judge_number (ask qs (λ n. after (answer.Refused n) s) x).answer) (ask qs (λ n. ruling.Refused) y)
-unfolding answer_by judge_number
+    → (ask qs (λ n. after (refused n) s) x).answer ≡ answer_by (judge_number (ask qs (λ n. after (refused n) s) x).answer) (ask qs (λ n. None) y)
+unfolding answer_by answer_number
 asked [] s x y e = e
 asked (q ∷ qs) s x y e = go q.1 (asked qs s x y e)
   where
-    go : (b : Bool) → (ask qs (λ n. after (answer.Refused n) s) x).answer ≡ answer_by (judge_number (ask qs (λ n. after (answer.Refused n) s) x).answer) (ask qs (λ n. ruling.Refused) y)
-        → (cond b (ask qs (λ n. after (answer.Refused n) s) x) (after (answer.Refused q.0) s)).answer
-        ≡ answer_by (judge_number (cond b (ask qs (λ n. after (answer.Refused n) s) x) (after (answer.Refused q.0) s)).answer) (cond b (ask qs (λ n. ruling.Refused) y) ruling.Refused)
+    go : (b : Bool) → (ask qs (λ n. after (refused n) s) x).answer ≡ answer_by (judge_number (ask qs (λ n. after (refused n) s) x).answer) (ask qs (λ n. None) y)
+        → (cond b (ask qs (λ n. after (refused n) s) x) (after (refused q.0) s)).answer
+        ≡ answer_by (judge_number (cond b (ask qs (λ n. after (refused n) s) x) (after (refused q.0) s)).answer) (cond b (ask qs (λ n. None) y) None)
     go true h = h
-    go false h = refl
+    go false h = ap Err (sym (refusal_back (refusal_of q.0)))
 
 answer_is : (s : State) (u : Unit) (cost : List ℕ) (stamp : ℕ) → (page.judge s u cost stamp).answer ≡ answer_by (judge_number (page.judge s u cost stamp).answer) (page.judge_rule s u cost stamp)
 unfolding page.judge page.judge_rule page.bounded answer_by answer_of
@@ -81,15 +82,15 @@ answer_is s u cost stamp = asked (page.judge_asks s cost stamp) s _ _ (go (page.
     clock : ℕ
     clock = page.clock_by s stamp
 
-    go : (b : Bool) → (cond b (after answer.Admitted s) (page.bounded s u cost stamp)).answer
-        ≡ answer_by (judge_number (cond b (after answer.Admitted s) (page.bounded s u cost stamp)).answer) (cond b (ruling.Ruled (rules.Admitted nothing)) (ruling.Ruled (page.ruled s u (numbers cost) clock)))
+    go : (b : Bool) → (cond b (after (Ok verdicts.Admitted) s) (page.bounded s u cost stamp)).answer
+        ≡ answer_by (judge_number (cond b (after (Ok verdicts.Admitted) s) (page.bounded s u cost stamp)).answer) (cond b (Some (rules.Admitted nothing)) (Some (page.ruled s u (numbers cost) clock)))
     go true = refl
     go false = ap answer_of (judged_verdict s u (numbers cost) clock)
 
 -- a call that is not refused was asked nothing that lacks
-taken : (a b c d : Bool) (s : State) (x : After Answer) (y : Ruling) → judge_number (ask ((3, a) ∷ (4, b) ∷ (5, c) ∷ (6, d) ∷ []) (λ n. after (answer.Refused n) s) x).answer ≡ 0
-    → ask ((3, a) ∷ (4, b) ∷ (5, c) ∷ (6, d) ∷ []) (λ n. ruling.Refused) y ≡ y
-unfolding judge_number
+taken : (a b c d : Bool) (s : State) (x : After Answer) (y : Ruling) → judge_number (ask ((3, a) ∷ (4, b) ∷ (5, c) ∷ (6, d) ∷ []) (λ n. after (refused n) s) x).answer ≡ 0
+    → ask ((3, a) ∷ (4, b) ∷ (5, c) ∷ (6, d) ∷ []) (λ n. None) y ≡ y
+unfolding answer_number number_of refusal_of
 taken true true true true s x y e = refl
 taken true true true false s x y e = absurd (omega (arith, e))
 taken true true false d s x y e = absurd (omega (arith, e))
@@ -98,11 +99,11 @@ taken false b c d s x y e = absurd (omega (arith, e))
 
 -- then its rule is by whether the relay is bounded
 ruled_by : (s : State) (u : Unit) (cost : List ℕ) (stamp : ℕ) (b : Bool) → page.is_unbounded s.head.flow.rate ≡ b → judge_number (page.judge s u cost stamp).answer ≡ 0
-    → page.judge_rule s u cost stamp ≡ cond b (ruling.Ruled (rules.Admitted nothing)) (ruling.Ruled (page.ruled s u (numbers cost) (max stamp s.head.flow.at_ms)))
+    → page.judge_rule s u cost stamp ≡ cond b (Some (rules.Admitted nothing)) (Some (page.ruled s u (numbers cost) (max stamp s.head.flow.at_ms)))
 unfolding page.judge page.judge_rule page.judge_asks page.clock_by
 ruled_by s u cost stamp b free e =
     taken (page.head_whole s.head) (page.memory_whole s) (page.costs_held cost) (page.is_stamp stamp) s _ _ e
-    ∙ ap (λ (b : Bool). cond b (ruling.Ruled (rules.Admitted nothing)) (ruling.Ruled (page.ruled s u (numbers cost) (max stamp s.head.flow.at_ms)))) free
+    ∙ ap (λ (b : Bool). cond b (Some (rules.Admitted nothing)) (Some (page.ruled s u (numbers cost) (max stamp s.head.flow.at_ms)))) free
 
 pub told : Told
 told = record {

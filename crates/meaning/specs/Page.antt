@@ -1,7 +1,7 @@
 -- WHAT EACH CALL MEANS, on one page: a step on the state (specs/State), from the questions down to the answer. A heading names the section of document 01 where it has one.
 -- What is cited from other pages: the hash, rank and name of a unit (sender), the fade (fade), finding and adding a record (store), dropping the stale (store_retain),
 -- the wants of a table and the level of a histogram (scan, wants), the counted sources (cut_sources), the report's text (report_lines). specs/Agrees: the contracts of the program say the same.
-use Rattle.std.specs.Prelude.{ℕ, ◌+◌, ◌-◌, ◌/◌, ◌^◌, ◌%◌, min, max, Bool, cond, not, ◌&&◌, ◌||◌, List, [], ◌∷◌, ◌++◌, length, take, drop, Float}
+use Rattle.std.specs.Prelude.{ℕ, ◌+◌, ◌-◌, ◌/◌, ◌^◌, ◌%◌, min, max, Bool, cond, not, ◌&&◌, ◌||◌, List, [], ◌∷◌, ◌++◌, length, take, drop, Float, Some, None, Ok}
 use Rattle.std.specs.Float.{binary64}
 use Rattle.std.specs.Float.Ieee.{of_bits}
 use Rattle.ieee.specs.Doubles.{◌⊕◌, ◌⊖◌, ◌⊗◌, ◌⊘◌, ◌⊴◌, ◌⊲◌, whole, nothing, one, half, thousand}
@@ -21,15 +21,7 @@ use Rattle.store_retain.specs.Retain.{retained}
 use Rattle.wants.specs.Wants as wants
 use Rattle.cut_sources.specs.Counted as counts
 use Rattle.cut_sources.specs.Sorted.{sorted}
-use Rattle.head.specs.declared.Begin.TheVariants as begin
-use Rattle.head.specs.declared.Answer.TheVariants as answer
-use Rattle.head.specs.declared.Ruling.TheVariants as ruling
-use Rattle.head.specs.declared.Done.TheVariants as done
-use Rattle.head.specs.declared.Written.TheVariants as written
-use Rattle.head.specs.declared.Reading.TheVariants as reading
-use Rattle.head.specs.declared.LevelRead.TheVariants as levels
-use Rattle.head.specs.declared.RateRead.TheVariants as rates
-use Rattle.head.specs.declared.BoundedRead.TheVariants as bounds
+use Rattle.head.specs.Answers.{refused}
 use Rattle.head.specs.Readings.{index_of}
 use Rattle.cut_counts.specs.Counting.{added, cause_of}
 use Rattle.scan.specs.Walking.{walk_use, walk}
@@ -152,8 +144,8 @@ start s rate ceiling =
     let level = parts λ d. least (numbers rate ! d) LEVEL_MOST in
     let flow : Flow = record { rate = rate; ceiling = ceiling; buckets = buckets; at_ms = 0; admitted = zeros } in
     ask ((1, rates_whole rate) ∷ (2, records_whole s && rooms_whole units counted) ∷ [])
-    (λ n. after (begin.Refused n) s)
-    (after begin.Started (with_hist (with_head s (new_head flow level units counted)) wants.cleared))
+    (λ n. after (refused n) s)
+    (after (Ok tt) (with_hist (with_head s (new_head flow level units counted)) wants.cleared))
 
 -- ==== The sender and its record (document 01: the verdict, `Use`)
 -- the place of the record that a call uses: the unit's own, a new one where there is room, else overflow's, whose place is the room
@@ -349,8 +341,8 @@ unfoldable pub judge : State → Unit → (cost : List ℕ) (stamp : ℕ) → Af
 judge s u cost stamp =
     let free = is_unbounded s.head.flow.rate in
     ask (judge_asks s cost stamp)
-    (λ n. after (answer.Refused n) s)
-    (cond free (after answer.Admitted s) (bounded s u cost stamp))
+    (λ n. after (refused n) s)
+    (cond free (after (Ok verdict.Admitted) s) (bounded s u cost stamp))
 
 -- the rule that it answers beside the verdict: none where it is refused, a want of 0 on an unbounded relay
 unfoldable pub judge_rule : State → Unit → (cost : List ℕ) (stamp : ℕ) → Ruling
@@ -358,8 +350,8 @@ judge_rule s u cost stamp =
     let free = is_unbounded s.head.flow.rate in
     let clock = clock_by s stamp in
     ask (judge_asks s cost stamp)
-    (λ n. ruling.Refused)
-    (cond free (ruling.Ruled (rules.Admitted nothing)) (ruling.Ruled (ruled s u (numbers cost) clock)))
+    (λ n. None)
+    (cond free (Some (rules.Admitted nothing)) (Some (ruled s u (numbers cost) clock)))
 
 -- ==== Cut: 3, 4, 5 (document 01: cuts and report, `cut`)
 -- the whole cost back: tokens up to the burst, admitted and attempted down to 0, credit without a cap; a record added for it is fresh, stamped with the clock
@@ -381,8 +373,8 @@ cut s u c cost =
     let hands = not (is_unbounded s.head.flow.rate) && index_of c =? 0 in
     let back = cond hands (handed_back s u (numbers cost)) s in
     ask ((3, head_whole s.head) ∷ (4, memory_whole s) ∷ (5, costs_held cost) ∷ [])
-    (λ n. after (done.Refused n) s)
-    (after done.Counted (counted back (name_of u) (index_of c) (cost # 0)))
+    (λ n. after (refused n) s)
+    (after (Ok tt) (counted back (name_of u) (index_of c) (cost # 0)))
 
 -- ==== Report: 3, 4, 7, the last of which is that the whole text fits (document 01: cuts and report)
 -- the state stays; the text goes to the front of the buffer, the bytes behind it stay
@@ -398,8 +390,8 @@ unfoldable pub report : State → (out : List ℕ) → Reported
 report s out =
     let page = text s.head s.counted in
     ask (report_asks s out)
-    (λ n. record { answer = written.Refused n; front = []; out = out })
-    (record { answer = written.Bytes (length page); front = page; out = page ++ drop (length page) out })
+    (λ n. record { answer = refused n; front = []; out = out })
+    (record { answer = Ok (length page); front = page; out = page ++ drop (length page) out })
 
 -- the call beside it: the number, 0 where the report would be written
 unfoldable pub report_refusal : State → (out : List ℕ) → ℕ
@@ -410,16 +402,16 @@ abbrev pub read : {A : Type 0} → Shedder → (ℕ → A) → A → A
 read h refused result = ask ((3, head_whole h) ∷ []) refused result
 
 unfoldable pub visited : Shedder → Reading
-visited h = read h reading.Refused (reading.Whole h.visits)
+visited h = read h refused (Ok h.visits)
 
 unfoldable pub cut_batches : Shedder → Cause → Reading
-cut_batches h c = read h reading.Refused (reading.Whole (h.batches # index_of c))
+cut_batches h c = read h refused (Ok (h.batches # index_of c))
 
 unfoldable pub level : Shedder → Dim → LevelRead
-level h d = read h levels.Refused (levels.Level (h.level ! dim_of d))
+level h d = read h refused (Ok (h.level ! dim_of d))
 
 unfoldable pub rate : Shedder → Dim → RateRead
-rate h d = read h rates.Refused (cond (is_unbounded h.flow.rate) rates.Unbounded (rates.PerSecond (h.flow.rate # dim_of d)))
+rate h d = read h refused (Ok (cond (is_unbounded h.flow.rate) None (Some (h.flow.rate # dim_of d))))
 
 unfoldable pub is_bounded : Shedder → BoundedRead
-is_bounded h = read h bounds.Refused (cond (is_unbounded h.flow.rate) bounds.Unbounded bounds.Bounded)
+is_bounded h = read h refused (Ok (not (is_unbounded h.flow.rate)))

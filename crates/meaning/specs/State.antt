@@ -1,5 +1,5 @@
 -- What the page is written in: the state that every call works on, a state with one part changed, questions, and notation. Definitions only.
-use Rattle.std.specs.Prelude.{ℕ, Bool, cond, List, [], ◌∷◌, eqb, leb, ltb, get_or, replicate, Float}
+use Rattle.std.specs.Prelude.{ℕ, Bool, cond, List, [], ◌∷◌, eqb, leb, ltb, get_or, replicate, Float, ⊤, Option, Result}
 use Rattle.ieee.specs.Doubles.{◌⊘◌, nothing, one}
 use Rattle.flow.specs.Flow.{dims, upto, at, zeros, added}
 use Rattle.store.specs.Store.{Rows, rows}
@@ -19,15 +19,35 @@ pub use Rattle.head.specs.declared.Scan.{Scan}
 pub use Rattle.head.specs.declared.Shedder.{Shedder}
 pub use Rattle.head.specs.declared.Cause.{Cause}
 pub use Rattle.flow.specs.declared.Dim.{Dim}
-pub use Rattle.head.specs.declared.Begin.{Begin}
-pub use Rattle.head.specs.declared.Answer.{Answer}
-pub use Rattle.head.specs.declared.Ruling.{Ruling}
-pub use Rattle.head.specs.declared.Done.{Done}
-pub use Rattle.head.specs.declared.Written.{Written}
-pub use Rattle.head.specs.declared.Reading.{Reading}
-pub use Rattle.head.specs.declared.LevelRead.{LevelRead}
-pub use Rattle.head.specs.declared.RateRead.{RateRead}
-pub use Rattle.head.specs.declared.BoundedRead.{BoundedRead}
+pub use Rattle.head.specs.declared.Refusal.{Refusal}
+
+-- ---- what the calls answer: a start, a judgement and the rule that decided it, a cut, a report, and the readings
+abbrev pub Begin : Type 0
+Begin = Result ⊤ Refusal
+
+abbrev pub Answer : Type 0
+Answer = Result Verdict Refusal
+
+abbrev pub Ruling : Type 0
+Ruling = Option Rule
+
+abbrev pub Done : Type 0
+Done = Result ⊤ Refusal
+
+abbrev pub Written : Type 0
+Written = Result ℕ Refusal
+
+abbrev pub Reading : Type 0
+Reading = Result ℕ Refusal
+
+abbrev pub LevelRead : Type 0
+LevelRead = Result Float Refusal
+
+abbrev pub RateRead : Type 0
+RateRead = Result (Option ℕ) Refusal
+
+abbrev pub BoundedRead : Type 0
+BoundedRead = Result Bool Refusal
 
 -- ---- the head, and the lent memory: the unit records, the histogram of wants, the counted records
 pub record State : Type 0 where

@@ -15,10 +15,12 @@ use Rattle.flow.specs.Flow.{all}
 use Rattle.head.specs.declared.Shedder.{Shedder}
 use Rattle.head.specs.Questions.{head_whole, memory_whole, costs_held, cut_asked}
 use Rattle.head.proofs.Asked.{cut_ready}
-use Rattle.head.specs.declared.Written.{Written}
-use Rattle.head.specs.declared.Written.TheVariants.{Bytes, Refused}
+use Rattle.std.proofs.Common.{Result, Ok, Err}
+use Rattle.head.specs.declared.Refusal.{Refusal}
+use Rattle.head.proofs.Numbers.{choice_number}
+use Rattle.io.specs.Counts.{IsPrefixLen}
 use Rattle.report_lines.specs.Lines.{text}
-use Rattle.head.specs.Answers.{written_number}
+use Rattle.head.specs.Answers.{refusal_of, refused as refused_by, written_number}
 use Rattle.report.specs.Report.{bytes, report_asked, answer, front, Ends, ends, report}
 
 -- what questions 3 and 4 show: the sources counted are rows of the memory lent
@@ -41,15 +43,17 @@ fits_of true true x room h = third (leb x room) refl h
 fits_of true false x room h = absurd (omega arith)
 fits_of false b x room h = absurd (omega arith)
 
-number_of : (a n : ℕ) (t : Bool) → eqb a 0 ≡ t → written_number (cond t (Bytes n) (Refused a)) ≡ a
-number_of a n true e = sym (eqb-true a 0 e)
-number_of a n false e = refl
+asked_most : (a b t : Bool) → cond a (cond b (cond t 0 7) 4) 3 ≤ 7
+asked_most true true true = omega arith
+asked_most true true false = omega arith
+asked_most true false t = omega arith
+asked_most false b t = omega arith
 
-bytes_of : (t : Bool) (a : ℕ) (x : List ℕ) → bytes (cond t (Bytes (length x)) (Refused a)) ≡ length (cond t x [])
+bytes_of : (t : Bool) (a : ℕ) (x : List ℕ) → bytes (cond t (Ok (length x)) (refused_by a)) ≡ length (cond t x [])
 bytes_of true a x = refl
 bytes_of false a x = refl
 
-ends_of : (t : Bool) (a b : Written) (x out : List ℕ)
+ends_of : (t : Bool) (a b : Result ℕ Refusal) (x out : List ℕ)
     → cond t (ends a (x ++ drop (length x) out)) (ends b out) ≡ ends (cond t a b) (cond t x [] ++ drop (length (cond t x [])) out)
 ends_of true a b x out = refl
 ends_of false a b x out = refl
@@ -75,20 +79,25 @@ module _ (h : Shedder) (tags units uses : ℕ) (rows : List (List ℕ)) where
         unfolding report_asked
         asked_none g = simp (e, f, le-leb (length (text h rows)) room g)
 
-    pub refused : (k : ℕ) → eqb k 0 ≡ false → report_asked h tags units uses rows room ≡ k
-        → (Refused k ≡ answer h tags units uses rows room) × ([] ≡ front h tags units uses rows room)
+    -- refused by k: nothing is written
+    pub refused : (k : ℕ) (r : Refusal) (a : Result ℕ Refusal) (own : List ℕ) → eqb k 0 ≡ false → refusal_of k ≡ r → report_asked h tags units uses rows room ≡ k → a ≡ Err r
+        → (a ≡ answer h tags units uses rows room) × IsPrefixLen (bytes a) own × (take (bytes a) own ≡ front h tags units uses rows room)
     unfolding answer front
-    refused k n e = (simp (e, n), simp (e, n))
+    refused k r a own n q e f =
+        let g : a ≡ refused_by k = f ∙ ap Err (sym q) in
+        (g ∙ simp (e, n), rw f (omega arith, refl), ap (λ (x : Result ℕ Refusal). take (bytes x) own) g ∙ simp (e, n))
 
     pub taken : report_asked h tags units uses rows room ≡ 0
-        → (Bytes (length (text h rows)) ≡ answer h tags units uses rows room) × (text h rows ≡ front h tags units uses rows room)
+        → (Ok (length (text h rows)) ≡ answer h tags units uses rows room) × (text h rows ≡ front h tags units uses rows room)
     unfolding answer front
     taken e = (simp e, simp e)
 
     -- ---- the answer
     pub answer_number : written_number (answer h tags units uses rows room) ≡ report_asked h tags units uses rows room
-    unfolding answer
-    answer_number = number_of (report_asked h tags units uses rows room) (length (text h rows)) (eqb (report_asked h tags units uses rows room) 0) refl
+    unfolding answer report_asked
+    answer_number =
+        choice_number (length (text h rows)) (report_asked h tags units uses rows room)
+        (asked_most (head_whole h) (memory_whole h tags units uses (length rows)) (leb (length (text h rows)) room))
 
     answer_bytes : bytes (answer h tags units uses rows room) ≡ length (front h tags units uses rows room)
     unfolding answer front
@@ -108,28 +117,28 @@ module _ (h : Shedder) (tags units uses : ℕ) (rows : List (List ℕ)) where
         ≡ ends (answer h tags units uses rows (length out)) (front h tags units uses rows (length out) ++ drop (length (front h tags units uses rows (length out))) out)
     unfolding report answer front
     whole =
-        ends_of (eqb (report_asked h tags units uses rows (length out)) 0) (Bytes (length (text h rows))) (Refused (report_asked h tags units uses rows (length out)))
+        ends_of (eqb (report_asked h tags units uses rows (length out)) 0) (Ok (length (text h rows))) (refused_by (report_asked h tags units uses rows (length out)))
         (text h rows) out
 
     -- the front part is put where the answer says
-    pub written : (w : Written) (own after : List ℕ) (n r : ℕ) → w ≡ answer h tags units uses rows (length out) → n ≡ bytes w
+    pub written : (w : Result ℕ Refusal) (own after : List ℕ) (n r : ℕ) → w ≡ answer h tags units uses rows (length out) → n ≡ bytes w
         → take (bytes w) own ≡ front h tags units uses rows (length out) → page after r ≡ write (page out 0) (take n own)
         → ends w after ≡ report h tags units uses rows out
     written w own after n r a b f e =
         let g = front h tags units uses rows (length out) in
         let p : after ≡ g ++ drop (length g) out =
         put_front out after g r (front_fits (length out)) (e ∙ ap (λ (k : ℕ). write (page out 0) (take k own)) b ∙ ap (write (page out 0)) f) in
-        ap (λ (v : Written). ends v after) a ∙ ap (ends (answer h tags units uses rows (length out))) p ∙ sym whole
+        ap (λ (v : Result ℕ Refusal). ends v after) a ∙ ap (ends (answer h tags units uses rows (length out))) p ∙ sym whole
 
     -- the front part is read back
-    pub part : (w : Written) (after : List ℕ) (n : ℕ) → ends w after ≡ report h tags units uses rows out → n ≡ bytes w
+    pub part : (w : Result ℕ Refusal) (after : List ℕ) (n : ℕ) → ends w after ≡ report h tags units uses rows out → n ≡ bytes w
         → take n after ≡ front h tags units uses rows (length out)
     part w after n e b =
         let g = front h tags units uses rows (length out) in
         let c : n ≡ length g = b ∙ ap (λ (x : Ends). bytes x.answer) (e ∙ whole) ∙ answer_bytes (length out) in
         ap (take n) (ap (λ (x : Ends). x.out) (e ∙ whole)) ∙ take_at g (drop (length g) out) n (sym c)
 
-    pub part_length : (w : Written) (after : List ℕ) (n : ℕ) → ends w after ≡ report h tags units uses rows out → n ≡ bytes w
+    pub part_length : (w : Result ℕ Refusal) (after : List ℕ) (n : ℕ) → ends w after ≡ report h tags units uses rows out → n ≡ bytes w
         → n ≡ length (take n after)
     part_length w after n e b =
         b ∙ ap (λ (x : Ends). bytes x.answer) (e ∙ whole) ∙ answer_bytes (length out) ∙ ap length (sym (part w after n e b))

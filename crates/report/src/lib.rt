@@ -6,26 +6,15 @@ ghost use Rattle.io.specs.Counts.{IsPrefixLen};
 ghost use Rattle.head.specs.Answers as answers;
 ghost use Rattle.report.specs.Report as reports;
 
-use head::{Shedder, Written};
+use head::{Refusal, Shedder};
 use report_lines::{TEXT_MOST, write_text};
 use store::{SourceRow, UnitRow, UseRow};
 
-fn bytes(w: Written) -> usize
-    ensures { result ≡ reports.bytes w }
+// The bytes written.
+fn bytes(answer: Result<usize, Refusal>) -> usize
+    ensures { result ≡ reports.bytes answer }
 {
-    match w {
-        Written::Bytes(n) => n,
-        Written::Refused(_) => 0,
-    }
-}
-
-fn number(w: Written) -> u64
-    ensures { result ≡ answers.written_number w }
-{
-    match w {
-        Written::Bytes(_) => 0,
-        Written::Refused(no) => no,
-    }
+    answer.unwrap_or(0)
 }
 
 // The questions in their order. The text is composed in `own`, so that it is known whether it fits the room before
@@ -38,22 +27,20 @@ fn composed(
     counted: &[SourceRow],
     room: usize,
     own: &mut [u8; TEXT_MOST],
-) -> Written
+) -> Result<usize, Refusal>
     ensures value { result ≡ reports.answer head tags units uses counted.now room }
     ensures prefix_len { IsPrefixLen (reports.bytes result) own.new }
     ensures own_after { take (reports.bytes result) own.new ≡ reports.front head tags units uses counted.now room }
 {
-    if head::head_whole(head) {
-        if head::memory_whole(head, tags, units, uses, counted.len()) {
-            let n = write_text(head, counted, own);
-            if n <= room {
-                return Written::Bytes(n);
-            }
-            return Written::Refused(7);
-        }
-        return Written::Refused(4);
+    head::read_asked(head)?;
+    if !head::memory_whole(head, tags, units, uses, counted.len()) {
+        return Err(Refusal::Memory);
     }
-    Written::Refused(3)
+    let n = write_text(head, counted, own);
+    if room < n {
+        return Err(Refusal::Buffer);
+    }
+    Ok(n)
 }
 
 // Writes the report to the front of out. A refused one writes nothing.
@@ -64,7 +51,7 @@ pub fn write_report(
     uses: &[UseRow],
     counted: &[SourceRow],
     out: &mut [u8],
-) -> Written
+) -> Result<usize, Refusal>
     ensures out_after { reports.ends result out.new
         ≡ reports.report head (length tags.now) (length units.now) (length uses.now) counted.now out.old }
     ensures result_value { answers.written_number result
@@ -102,7 +89,7 @@ pub fn report<'a>(
     &mut out[..n]
 }
 
-// The number of the question that a report into out would be refused by, 0 where it would be written.
+// The refusal of a report into out, if it would not be written.
 pub fn report_refusal(
     head: Shedder,
     tags: &[u16],
@@ -110,11 +97,11 @@ pub fn report_refusal(
     uses: &[UseRow],
     counted: &[SourceRow],
     out: &[u8],
-) -> u64
-    ensures { result ≡ reports.report_asked head (length tags.now) (length units.now) (length uses.now) counted.now (length out.now) }
+) -> Result<(), Refusal>
+    ensures { answers.answer_number result ≡ reports.report_asked head (length tags.now) (length units.now) (length uses.now) counted.now (length out.now) }
 {
     let mut own = [0u8; TEXT_MOST];
-    let w = composed(
+    composed(
         head,
         tags.len(),
         units.len(),
@@ -122,6 +109,6 @@ pub fn report_refusal(
         counted,
         out.len(),
         &mut own,
-    );
-    number(w)
+    )?;
+    Ok(())
 }

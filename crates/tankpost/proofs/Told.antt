@@ -9,7 +9,6 @@ use Rattle.wants.specs.Wants.{Hist}
 use Rattle.head.specs.declared.Shedder.{Shedder}
 use Rattle.head.specs.declared.Cause.{Cause}
 use Rattle.head.specs.declared.Starting.{Starting}
-use Rattle.head.specs.declared.Written.{Written}
 use Rattle.head.specs.Answers.{start_number, cut_number}
 use Rattle.head.specs.Start as starts
 use Rattle.judge.specs.declared.Judgement.{Judgement}
@@ -22,7 +21,7 @@ use Rattle.codes.specs.declared.Count.{Count}
 use Rattle.codes.specs.declared.Decision.{Decision}
 use Rattle.codes.specs.Numbers.{read_written}
 use Rattle.codes.specs.Decisions.{decision_of}
-use Rattle.meaning.specs.State.{after, told_as, Answer, Ruling}
+use Rattle.meaning.specs.State.{after, told_as, Answer, Ruling, Written}
 use Rattle.meaning.specs.Page as page
 use Rattle.meaning.specs.Agrees.{of, started, judged, cut, start_with, report_with, asked_with}
 use Rattle.meaning.proofs.Agrees.{agrees}

@@ -59,11 +59,9 @@ pub extern "C" fn tankpost_start(
     let s = head::start(
         head, tags, units, uses, counts, sums, counted, *rate, *ceiling,
     );
-    let answer = s.answer;
-    let h = s.head;
     Answered {
-        answer: codes::start_number(answer),
-        head: h,
+        answer: codes::answer_number(s.answer),
+        head: s.head,
     }
 }
 
@@ -99,12 +97,9 @@ pub extern "C" fn tankpost_judge(
         *cost,
         stamp,
     );
-    let answer = j.answer;
-    let ruling = j.ruling;
-    let h = j.head;
     Judged {
-        decision: codes::decision_of(answer, ruling),
-        head: h,
+        decision: codes::decision_of(j.answer, j.ruling),
+        head: j.head,
     }
 }
 
@@ -136,11 +131,9 @@ pub extern "C" fn tankpost_cut(
         codes::cause_of(cause),
         *cost,
     );
-    let answer = c.answer;
-    let h = c.head;
     Answered {
-        answer: codes::cut_number(answer),
-        head: h,
+        answer: codes::answer_number(c.answer),
+        head: c.head,
     }
 }
 
@@ -157,8 +150,7 @@ pub extern "C" fn tankpost_report(
     ensures { (g : Hist) → reported result out.new
         ≡ report_told (page.report (state_with g head tags.now units.now uses.now counted.now) out.old) }
 {
-    let w = report::write_report(head, tags, units, uses, counted, out);
-    codes::read_written(w)
+    codes::read_written(report::write_report(head, tags, units, uses, counted, out))
 }
 
 // report::report_refusal: the number of the refusal, 0 where the report would be written.
@@ -173,7 +165,7 @@ pub extern "C" fn tankpost_report_refusal(
 ) -> u64
     ensures { (g : Hist) → result ≡ page.report_refusal (state_with g head tags.now units.now uses.now counted.now) out.now }
 {
-    report::report_refusal(head, tags, units, uses, counted, out)
+    codes::answer_number(report::report_refusal(head, tags, units, uses, counted, out))
 }
 
 // ---- the readings

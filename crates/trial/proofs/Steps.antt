@@ -17,13 +17,10 @@ use Rattle.cut.specs.declared.Cutting.{Cutting}
 use Rattle.judge.specs.Judging as judging
 use Rattle.judge.specs.Judging.{Memory, memory, Judged}
 use Rattle.cut.specs.Cutting as cutting
-use Rattle.meaning.specs.State.{After}
+use Rattle.meaning.specs.State.{After, Begin, Answer, Done}
 use Rattle.meaning.specs.Page as calls
 use Rattle.meaning.specs.Agrees as law
 use Rattle.meaning.proofs.Agrees.{agrees}
-use Rattle.head.specs.declared.Begin.{Begin}
-use Rattle.head.specs.declared.Answer.{Answer}
-use Rattle.head.specs.declared.Done.{Done}
 use Rattle.trial_script.specs.declared.StartLine.{StartLine}
 use Rattle.trial_script.specs.declared.JudgeLine.{JudgeLine}
 use Rattle.trial_script.specs.declared.CutLine.{CutLine}

@@ -1,12 +1,11 @@
 -- One line of the trial answered: the shedder, its lent memory and the page of answers before and after. Definitions only.
-use Rattle.std.specs.Prelude.{ℕ, Bool, true, false, cond, Option, Some, None, List, [], ◌∷◌, eqb, leb, length, replicate}
+use Rattle.std.specs.Prelude.{ℕ, Bool, true, false, cond, Option, Some, None, List, [], ◌∷◌, eqb, leb, length, replicate, ⊤, Result, Ok, Err}
 use Rattle.ieee.specs.Doubles.{nothing}
 use Rattle.flow.specs.Flow.{dims, zeros, added}
 use Rattle.store.specs.Store.{«CAUSES»}
 use Rattle.text.specs.Page.{Page, page, write}
 use Rattle.head.specs.declared.Shedder.{Shedder}
-use Rattle.head.specs.declared.Begin as begin
-use Rattle.head.specs.declared.Begin.TheVariants.{Started, Refused}
+use Rattle.head.specs.declared.Refusal.{Refusal}
 use Rattle.judge.specs.Judging.{Memory, memory}
 use Rattle.meaning.specs.State as meaning
 use Rattle.meaning.specs.State.{After}
@@ -88,9 +87,9 @@ left_by s started x text = record {
 }
 
 -- a refused start leaves the shedder that was there, where there was one
-unfoldable pub has_begun : Bool → begin.Begin → Bool
-has_begun was Started = true
-has_begun was (Refused n) = was
+unfoldable pub has_begun : Bool → Result ⊤ Refusal → Bool
+has_begun was (Ok u) = true
+has_begun was (Err r) = was
 
 unfoldable pub start : State → StartLine → State
 start s l =

@@ -9,7 +9,7 @@ ghost use Rattle.judge.specs.Judging.{Memory, memory};
 ghost use Rattle.trial.specs.Trial as trial;
 
 use flow::{Bucket, DIMS, Use};
-use head::{Begin, CAUSES, Flow, Scan, Shedder};
+use head::{CAUSES, Flow, Refusal, Scan, Shedder};
 use store::{SourceRow, UnitRow, UseRow};
 use trial_script::{CutLine, JudgeLine, LINE_MOST, Line, StartLine};
 use wants::{Counts, Sums};
@@ -35,13 +35,11 @@ pub struct Trial {
 }
 
 // Whether a shedder is there after a start: the new one, or the one that was.
-fn has_begun(was: bool, answer: Begin) -> bool
+#[tactic(auto, unfolding(crate::specs::Trial::has_begun))]
+fn has_begun(was: bool, answer: Result<(), Refusal>) -> bool
     ensures { result ≡ trial.has_begun was answer }
 {
-    match answer {
-        Begin::Started => true,
-        Begin::Refused(_) => was,
-    }
+    was || answer.is_ok()
 }
 
 // No shedder yet: a head of zeros, which is not whole.
@@ -120,9 +118,8 @@ fn start(
         ≡ trial.start
         (trial.state t (memory (rows tags.now units.now uses.now) (hist counts.old sums.old) counted.now) out.old) l }
 {
-    let was = t.head;
     let s = head::start(
-        was,
+        t.head,
         tags,
         units,
         uses,
@@ -132,12 +129,10 @@ fn start(
         l.rate.into(),
         l.ceiling.into(),
     );
-    let answer = s.answer;
-    let head = s.head;
-    let at = trial_script::put_begin(out, t.at, answer);
+    let at = trial_script::put_begin(out, t.at, s.answer);
     Trial {
-        head,
-        is_started: has_begun(t.is_started, answer),
+        head: s.head,
+        is_started: has_begun(t.is_started, s.answer),
         at,
     }
 }
@@ -160,25 +155,21 @@ fn judge(
     if !t.is_started {
         return refused(t, out, NO_FORM);
     }
-    let was = t.head;
-    let unit = l.unit;
     let j = judge::judge(
-        was,
+        t.head,
         tags,
         units,
         uses,
         counts,
         sums,
         counted,
-        unit,
+        l.unit,
         l.cost.into(),
         l.stamp,
     );
-    let answer = j.answer;
-    let head = j.head;
-    let at = trial_script::put_answer(out, t.at, answer);
+    let at = trial_script::put_answer(out, t.at, j.answer);
     Trial {
-        head,
+        head: j.head,
         is_started: true,
         at,
     }
@@ -199,15 +190,19 @@ fn cut(
     if !t.is_started {
         return refused(t, out, NO_FORM);
     }
-    let was = t.head;
-    let unit = l.unit;
-    let cause = l.cause;
-    let c = cut::cut(was, tags, units, uses, counted, unit, cause, l.cost.into());
-    let answer = c.answer;
-    let head = c.head;
-    let at = trial_script::put_done(out, t.at, answer);
+    let c = cut::cut(
+        t.head,
+        tags,
+        units,
+        uses,
+        counted,
+        l.unit,
+        l.cause,
+        l.cost.into(),
+    );
+    let at = trial_script::put_done(out, t.at, c.answer);
     Trial {
-        head,
+        head: c.head,
         is_started: true,
         at,
     }
@@ -227,15 +222,12 @@ fn report(
     if !t.is_started {
         return refused(t, out, NO_FORM);
     }
-    let head = t.head;
-    let at = t.at;
     let mut own = [0u8; REPORT];
-    let no = report::report_refusal(head, tags, units, uses, counted, &own);
-    if no != 0 {
-        return refused(t, out, no);
+    if let Err(refusal) = report::report_refusal(t.head, tags, units, uses, counted, &own) {
+        return refused(t, out, u64::from(refusal));
     }
-    let front = report::report(head, tags, units, uses, counted, &mut own);
-    t.at = text::put(out, at, front);
+    let front = report::report(t.head, tags, units, uses, counted, &mut own);
+    t.at = text::put(out, t.at, front);
     t
 }
 

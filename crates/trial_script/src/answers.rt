@@ -5,7 +5,8 @@ ghost use Rattle.io.specs.Counts.{IsPrefixLen};
 ghost use Rattle.text.specs.Page.{page, write};
 ghost use Rattle.trial_script.specs.Answers as answers;
 
-use head::{Answer, Begin, Done};
+use head::Refusal;
+use verdict::Verdict;
 
 // Room for `refused `, a number and a line feed.
 const REFUSED_MOST: usize = 29;
@@ -28,31 +29,34 @@ pub fn put_refused(out: &mut [u8], at: usize, n: u64) -> usize
     text::put(out, at, &own[..k])
 }
 
-pub fn put_begin(out: &mut [u8], at: usize, answer: Begin) -> usize
+#[tactic(auto, unfolding(crate::specs::Answers::begin_text))]
+pub fn put_begin(out: &mut [u8], at: usize, answer: Result<(), Refusal>) -> usize
     ensures { page out.new result ≡ write (page out.old at) (answers.begin_text answer) }
 {
     match answer {
-        Begin::Started => text::put(out, at, b"started\n"),
-        Begin::Refused(n) => put_refused(out, at, n),
+        Ok(()) => text::put(out, at, b"started\n"),
+        Err(refusal) => put_refused(out, at, refusal.into()),
     }
 }
 
-pub fn put_answer(out: &mut [u8], at: usize, answer: Answer) -> usize
+#[tactic(auto, unfolding(crate::specs::Answers::answer_text))]
+pub fn put_answer(out: &mut [u8], at: usize, answer: Result<Verdict, Refusal>) -> usize
     ensures { page out.new result ≡ write (page out.old at) (answers.answer_text answer) }
 {
     match answer {
-        Answer::Admitted => text::put(out, at, b"ok\n"),
-        Answer::OverShare => text::put(out, at, b"over-share\n"),
-        Answer::RelayRate => text::put(out, at, b"relay-rate\n"),
-        Answer::Refused(n) => put_refused(out, at, n),
+        Ok(Verdict::Admitted) => text::put(out, at, b"ok\n"),
+        Ok(Verdict::OverShare) => text::put(out, at, b"over-share\n"),
+        Ok(Verdict::RelayRate) => text::put(out, at, b"relay-rate\n"),
+        Err(refusal) => put_refused(out, at, refusal.into()),
     }
 }
 
-pub fn put_done(out: &mut [u8], at: usize, answer: Done) -> usize
+#[tactic(auto, unfolding(crate::specs::Answers::done_text))]
+pub fn put_done(out: &mut [u8], at: usize, answer: Result<(), Refusal>) -> usize
     ensures { page out.new result ≡ write (page out.old at) (answers.done_text answer) }
 {
     match answer {
-        Done::Counted => text::put(out, at, b"counted\n"),
-        Done::Refused(n) => put_refused(out, at, n),
+        Ok(()) => text::put(out, at, b"counted\n"),
+        Err(refusal) => put_refused(out, at, refusal.into()),
     }
 }

@@ -12,8 +12,8 @@ entry-p-requires c = record {
   i_value = c.requires.i_value;
 }
 
-pub put_back-shared-requires : goal.put_back-shared-requires
-put_back-shared-requires c =
+pub put_back-overflow-requires : goal.put_back-overflow-requires
+put_back-overflow-requires c =
     c.entry-p.auto.units ∙ c.requires.units_len ∙ sym c.requires.uses_len ∙ sym c.entry-p.auto.uses
 
 pub shape_of-tags : goal.shape_of-tags
@@ -22,15 +22,15 @@ shape_of-tags c =
 
 pub shape_of-units : goal.shape_of-units
 shape_of-units c =
-    c.put_back-shared.auto.units ∙ c.entry-p.auto.units
+    c.put_back-overflow.auto.units ∙ c.entry-p.auto.units
 
 pub shape_of-uses : goal.shape_of-uses
 shape_of-uses c =
-    c.put_back-shared.auto.uses ∙ c.entry-p.auto.uses
+    c.put_back-overflow.auto.uses ∙ c.entry-p.auto.uses
 
 pub returns : goal.returns
 returns c = record {
-  uses_after = handed_is c.args.head _ c.args.unit c.args.cost c.entry-p.result _ _ _ _ _ c.used_at-used.result c.handed_back-next.result c.put_back-shared.result c.flowed_back-flow.result c.entry-p.ensures.uses_after c.used_at-used.ensures c.handed_back-next.ensures c.put_back-shared.ensures c.flowed_back-flow.ensures;
+  uses_after = handed_is c.args.head _ c.args.unit c.args.cost c.entry-p.result _ _ _ _ _ c.used_at-used.result c.handed_back-next.result c.put_back-overflow.result c.flowed_back-flow.result c.entry-p.ensures.uses_after c.used_at-used.ensures c.handed_back-next.ensures c.put_back-overflow.ensures c.flowed_back-flow.ensures;
   counted_value = refl;
   unit_room_value = refl;
 }

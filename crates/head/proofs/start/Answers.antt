@@ -1,19 +1,19 @@
+use Rattle.std.proofs.Common.{ap, ◌∙◌, Err, Ok}
+use Rattle.head.specs.declared.Refusal.{Refusal}
+use Rattle.wants.specs.Wants.{hist}
+use Rattle.head.specs.declared.Shedder.{Shedder}
 use Rattle.head.specs.Start.{start, start_ends}
-use Rattle.head.specs.Answers.{start_number}
-use borrow.Author.Tests.{eq-eqb, ne_eqb}
-use mathlib.Core.Path.{sym, ap, ◌∙◌}
+use Rattle.head.proofs.Numbers.{refused_is, answered_is, answered_none}
 use Rattle.head.proofs.start.Goals as goal
 
-pub returns-then-no-ne0 : goal.returns-then-no-ne0
-unfolding start start_number
-returns-then-no-ne0 c = record {
-  same_but_nan_bits = simp (sym c.start_asked-no.ensures, ne_eqb _ _ c.if-no-ne0.true);
-  answer_value = c.start_asked-no.ensures;
-}
+pub returns-in-Err-clause-same_but_nan_bits : goal.returns-in-Err-clause-same_but_nan_bits
+unfolding start
+returns-in-Err-clause-same_but_nan_bits c =
+    refused_is (λ (r : Refusal). start_ends (Err r) c.args.head (hist c.args.counts.now c.args.sums.now)) _ c.start_asked.result c.in-Err.refusal _ c.in-Err.is c.start_asked.ensures
 
-pub returns : goal.returns
-unfolding start start_number
-returns c = record {
-  same_but_nan_bits = simp (sym c.start_asked-no.ensures, eq-eqb _ _ c.if-no-ne0.false, c.opening-h.ensures) (ap (start_ends _ _) c.clear.ensures);
-  answer_value = sym c.if-no-ne0.false ∙ c.start_asked-no.ensures;
-}
+pub returns-clause-same_but_nan_bits : goal.returns-clause-same_but_nan_bits
+unfolding start
+returns-clause-same_but_nan_bits c =
+    ap (start_ends (Ok tt) c.opening.result) c.clear.ensures
+    ∙ ap (λ (h : Shedder). start_ends (Ok tt) h _) c.opening.ensures
+    ∙ answered_is _ _ _ (answered_none c.start_asked.result _ _ c.in_default.is c.start_asked.ensures)

@@ -1,7 +1,9 @@
 use Rattle.judge.proofs.Bounding.{bounded_is, ruling_is}
 use Rattle.head.proofs.Bounds.{le_by, lt_by, le_to, le_within, sum_within}
 use Rattle.head.specs.declared.Scan.{Scan}
-use mathlib.Core.Path.{ap, ◌∙◌}
+use Rattle.head.specs.Answers.{answer_number}
+use Rattle.judge.specs.Judging.{answer_of}
+use mathlib.Core.Path.{refl, ap, ◌∙◌}
 use native.Mathlib.Nat.{le_refl}
 use Prim.Native.Nat.{◌+◌}
 use Rattle.judge.proofs.bounded.Goals as goal
@@ -45,8 +47,9 @@ shape_of-uses c =
     c.scanned-s.auto.uses ∙ c.judged-p.auto.uses
 
 pub returns : goal.returns
+unfolding answer_of answer_number
 returns c = record {
-  counted_after = bounded_is c.args.head _ _ _ c.args.unit c.args.cost c.args.stamp c.later-clock.result c.numbers.result c.judged-p.result _ _ _ c.args.name c.count_verdict-t.result _ _ c.scanned-s.result _ _ c.answer_of-answer.result c.later-clock.ensures c.numbers.ensures c.judged-p.ensures.uses_after c.requires.name_value c.count_verdict-t.ensures.counted_after c.scanned-s.ensures c.answer_of-answer.ensures.value;
-  answer_value = c.answer_of-answer.ensures.result_value;
+  counted_after = bounded_is c.args.head _ _ _ c.args.unit c.args.cost c.args.stamp c.later-clock.result c.numbers.result c.judged-p.result _ _ _ c.args.name c.count_verdict-t.result _ _ c.scanned-s.result _ _ c.later-clock.ensures c.numbers.ensures c.judged-p.ensures.uses_after c.requires.name_value c.count_verdict-t.ensures.counted_after c.scanned-s.ensures;
+  answer_value = refl;
   ruling_value = ruling_is c.args.head _ c.args.unit c.args.cost c.args.stamp c.later-clock.result c.numbers.result _ c.later-clock.ensures c.numbers.ensures c.judged-p.ensures.rule_value;
 }

@@ -12,8 +12,8 @@ entry-p-requires c = record {
   i_value = c.requires.i_value;
 }
 
-pub put_back-shared-requires : goal.put_back-shared-requires
-put_back-shared-requires c =
+pub put_back-overflow-requires : goal.put_back-overflow-requires
+put_back-overflow-requires c =
     c.entry-p.auto.units ∙ c.requires.units_len ∙ sym c.requires.uses_len ∙ sym c.entry-p.auto.uses
 
 pub shape_of-tags : goal.shape_of-tags
@@ -22,18 +22,18 @@ shape_of-tags c =
 
 pub shape_of-units : goal.shape_of-units
 shape_of-units c =
-    c.put_back-shared.auto.units ∙ c.entry-p.auto.units
+    c.put_back-overflow.auto.units ∙ c.entry-p.auto.units
 
 pub shape_of-uses : goal.shape_of-uses
 shape_of-uses c =
-    c.put_back-shared.auto.uses ∙ c.entry-p.auto.uses
+    c.put_back-overflow.auto.uses ∙ c.entry-p.auto.uses
 
 pub returns : goal.returns
 returns c = record {
-  uses_after = judged_is c.args.head _ c.args.unit c.args.hash c.args.cost c.args.clock c.entry-p.result _ _ _ _ _ c.used_at-used.result c.put_back-shared.result c.rank_at.result c.ruled-r.result.outcome c.flowed-flow.result c.requires.hash_value c.entry-p.ensures.uses_after c.used_at-used.ensures c.rank_at.ensures c.ruled-r.ensures.outcome_value c.put_back-shared.ensures c.flowed-flow.ensures;
+  uses_after = judged_is c.args.head _ c.args.unit c.args.hash c.args.cost c.args.clock c.entry-p.result _ _ _ _ _ c.used_at-used.result c.put_back-overflow.result c.rank_at-rank.result c.ruled-r.result.outcome c.flowed-flow.result c.requires.hash_value c.entry-p.ensures.uses_after c.used_at-used.ensures c.rank_at-rank.ensures c.ruled-r.ensures.outcome_value c.put_back-overflow.ensures c.flowed-flow.ensures;
   tracked_bound_2 = c.entry-p.ensures.tracked_le_room_2;
   counted_value = refl;
   unit_room_value = refl;
   scan_value = refl;
-  rule_value = rule_is c.args.head _ c.args.unit c.args.hash c.args.cost c.args.clock c.entry-p.result _ _ _ c.used_at-used.result c.rank_at.result c.ruled-r.result.rule c.requires.hash_value c.entry-p.ensures.uses_after c.used_at-used.ensures c.rank_at.ensures c.ruled-r.ensures.rule_value;
+  rule_value = rule_is c.args.head _ c.args.unit c.args.hash c.args.cost c.args.clock c.entry-p.result _ _ _ c.used_at-used.result c.rank_at-rank.result c.ruled-r.result.rule c.requires.hash_value c.entry-p.ensures.uses_after c.used_at-used.ensures c.rank_at-rank.ensures c.ruled-r.ensures.rule_value;
 }

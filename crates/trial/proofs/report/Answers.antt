@@ -1,5 +1,8 @@
 -- `report` meets its contract.
+use Rattle.std.proofs.Common.{refl, sym, ap, ◌∙◌, arith}
 use borrow.Author.Rules.{rules}
+use Rattle.head.specs.Answers.{answer_number}
+use Rattle.head.proofs.Numbers.{number_some, answered_none}
 use borrow.Author.Tests.{not-true, not-false}
 use Rattle.store.specs.Store.{rows}
 use Rattle.judge.specs.Judging.{memory}
@@ -13,16 +16,17 @@ returns-then-not-t c =
     (not-true c.args.t.is_started c.if-not-t.true)
     (c.refused.ensures (memory (rows c.args.tags.now c.args.units.now c.args.uses.now) g c.args.counted.now))
 
-pub returns-then-no-ne0 : goal.returns-then-no-ne0
-returns-then-no-ne0 c =
-    λ g. report_refused (state c.args.t (memory (rows c.args.tags.now c.args.units.now c.args.uses.now) g c.args.counted.now) c.args.out.now) _ _ _
-    (not-false c.args.t.is_started c.if-not-t.false) c.report_refusal-no.ensures
-    (search rules) c.if-no-ne0.true
-    (c.refused-then-no-ne0.ensures (memory (rows c.args.tags.now c.args.units.now c.args.uses.now) g c.args.counted.now))
+pub returns-in-Err : goal.returns-in-Err
+unfolding answer_number
+returns-in-Err c =
+    λ g. report_refused (state c.args.t (memory (rows c.args.tags.now c.args.units.now c.args.uses.now) g c.args.counted.now) c.args.out.now) _ c.from.result _
+    (not-false c.args.t.is_started c.if-not-t.false) (c.from.ensures ∙ ap answer_number (sym c.in-Err.is) ∙ c.report_refusal.ensures)
+    (search rules) (λ z. absurd (omega (arith, number_some c.in-Err.refusal, c.from.ensures, z)))
+    (c.refused-in-Err.ensures (memory (rows c.args.tags.now c.args.units.now c.args.uses.now) g c.args.counted.now))
 
 pub returns : goal.returns
 returns c =
     λ g. report_step (state c.args.t (memory (rows c.args.tags.now c.args.units.now c.args.uses.now) g c.args.counted.now) c.args.out.now) _ _ _ _ _
-    (not-false c.args.t.is_started c.if-not-t.false) c.report_refusal-no.ensures
-    (search rules) (search rules) c.if-no-ne0.false
+    (not-false c.args.t.is_started c.if-not-t.false) c.report_refusal.ensures
+    (search rules) (search rules) (answered_none c.report_refusal.result _ _ c.in_default.is refl)
     c.report-front.ensures c.put.ensures

@@ -10,12 +10,12 @@ slice_bounds-report-end c =
 
 pub returns-then-room-le-PAGE : goal.returns-then-room-le-PAGE
 returns-then-room-le-PAGE c = record {
-  value = (λ g. c.report_refusal-number.ensures);
+  value = (λ g. c.answer_number.ensures ∙ c.report_refusal-refusal.ensures);
   out_after = (λ g. part_put _ _ _ _ _ _ _ _ _ _ (sym (front_length _ _ c.if-room-le-PAGE.true)) c.report-part.ensures c.put.ensures);
 }
 
 pub returns : goal.returns
 returns c = record {
-  value = (λ g. c.report_number.ensures ∙ c.write_report-written.ensures.result_value);
-  out_after = (λ g. ap (λ (y : reports.Ends). y.out) c.write_report-written.ensures.out_after);
+  value = (λ g. c.answer_number-2.ensures ∙ c.write_report.ensures.result_value);
+  out_after = (λ g. ap (λ (y : reports.Ends). y.out) c.write_report.ensures.out_after);
 }

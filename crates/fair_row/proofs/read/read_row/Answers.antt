@@ -1,5 +1,5 @@
 use borrow.Author.Tests.{eq-eqb, ne_eqb}
-use Rattle.std.proofs.Common.{◌≡◌, List, ℕ, get_or}
+use Rattle.std.proofs.Common.{◌≡◌, ◌∙◌, List, ℕ, get_or}
 use Rattle.wants.specs.Wants.{Hist}
 use Rattle.fair.specs.Calls.{State}
 use Rattle.fair_row.specs.Replay.{held_with}
@@ -22,7 +22,7 @@ returns-then-which-eq3 c =
     let f = (eq-eqb _ 3 c.if-which-eq3.true) in
     let s : Hist → State = λ g. held_with g c.args.head c.args.tags.now c.args.units.now c.args.uses.now c.args.counted.now in
     record {
-      value = (λ g. beside_is (s g) _ _ _ e f c.report_refusal.ensures);
+      value = (λ g. beside_is (s g) _ _ _ e f (c.answer_number.ensures ∙ c.report_refusal.ensures));
       out_after = (λ g. beside_page (s g) _ _ e f);
     }
 
