@@ -8,6 +8,7 @@ ghost use Rattle.text.specs.Order.{less as before};
 ghost use Rattle.label.specs.Label.{label, key_label, v4_label, v6_label};
 
 use sender::{Group, PublicKey, Unit};
+use std::marker::Model;
 use text::Page;
 
 // The longest label, that of a key.
@@ -76,16 +77,25 @@ pub fn label_text(unit: Unit, out: &mut [u8; LABEL_MOST]) -> usize
 }
 
 // A label by value.
-#[derive(Clone, Copy)]
+#[derive(Drop)]
 pub struct Label {
-    pub bytes: [u8; LABEL_MOST],
-    pub len: usize,
-    pub ghost fits: { len ≤ 68 },
+    bytes: [u8; LABEL_MOST],
+    len: usize,
+}
+
+impl Model for Label {
+    ghost use Rattle.std.specs.Prelude.{ℕ, List, take, ◌≤◌};
+
+    ghost Value = { List ℕ };
+
+    ghost view = { λ l. take l.len l.bytes };
+
+    ghost invariant = { λ l. l.len ≤ 68 };
 }
 
 impl Label {
     pub fn of(unit: Unit) -> Label
-        ensures { take result.len result.bytes ≡ label unit }
+        ensures { result ≡ label unit }
     {
         let mut bytes = [0; LABEL_MOST];
         let len = label_text(unit, &mut bytes);
@@ -93,7 +103,7 @@ impl Label {
     }
 
     pub fn as_bytes(&self) -> &[u8]
-        ensures { result.now ≡ take self.now.len self.now.bytes }
+        ensures { result.now ≡ self.now }
     {
         &self.bytes[..self.len]
     }
