@@ -7,16 +7,14 @@ ghost use Rattle.text.specs.Page.{page, placed, writes, joined};
 ghost use Rattle.store.specs.Store as store;
 ghost use Rattle.report_ranking.specs.Sources as sources;
 ghost use Rattle.report_lines.specs.Lines as lines;
-ghost use Rattle.report_lines.specs.Pages.{seen};
-
-mod page;
+ghost use Rattle.text.specs.Pages.{seen};
 
 use flow::DIMS;
 use head::Shedder;
-use label::LABEL_MOST;
-use page::Page;
+use label::{LABEL_MOST, Label};
 use report_ranking::{SOURCES_REPORTED, first_after, unit_at};
 use store::{CAUSES, SourceRow};
+use text::Page;
 
 // A number behind a space has at most 21 bytes.
 const NUMBER_MOST: usize = 21;
@@ -97,7 +95,7 @@ fn put_source(out: &mut Page<'_>, counted: &[SourceRow], i: usize)
     let counts = cut_sources::counts_at(counted, i);
     out.put(b"source");
     out.put(b" ");
-    out.put_label(unit_at(counted, i));
+    out.put(Label::of(unit_at(counted, i)).as_bytes());
     put_numbers(out, &counts);
 }
 

@@ -1,7 +1,7 @@
 -- `report_lines::put_numbers` meets its contract: the loop has the numbers from the x-index-th on still to write. Assumes nothing.
 use Rattle.report_lines.specs.Lines.{numbers}
 use Rattle.text.specs.Page.{writes}
-use Rattle.report_lines.specs.Pages.{seen}
+use Rattle.text.specs.Pages.{seen}
 use lib.ListN.{drop}
 use mathlib.Core.Path.{◌≡◌}
 use Rattle.report_lines.proofs.put_numbers.Given as goal

@@ -2,7 +2,7 @@
 use Rattle.report_lines.specs.Lines.{source_lines}
 use Rattle.report_ranking.specs.Sources.{SOURCES_REPORTED, named, reported}
 use Rattle.text.specs.Page.{writes}
-use Rattle.report_lines.specs.Pages.{seen}
+use Rattle.text.specs.Pages.{seen}
 use Prim.Native.Nat.{◌≤◌, ◌-◌}
 use mathlib.Core.Path.{◌≡◌}
 use Rattle.report_lines.proofs.put_sources.Given as goal
