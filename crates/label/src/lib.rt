@@ -14,6 +14,8 @@ use text::Page;
 // The longest label, that of a key.
 pub const LABEL_MOST: usize = 68;
 
+// Put by the functions of text and not by `write!`, whose contract says what is written where it answers Ok, and not that it
+// does: a label is written for each unit.
 #[tactic(auto, using(crate::proofs::Labels::five_written, text::proofs::Numbers::length_word), unfolding(crate::specs::Label::key_label))]
 fn key_text(key: PublicKey, out: &mut [u8; LABEL_MOST]) -> usize
     ensures { page out.new result ≡ write (page out.old 0) (key_label key) }

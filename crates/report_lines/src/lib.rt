@@ -71,6 +71,7 @@ fn put_cause(out: &mut Page<'_>, word: &[u8], head: Shedder, i: usize)
     put_line(out, word, &[head.batches[i], head.receptions[i]]);
 }
 
+// A line for each cause, as the definition has them: a loop over their words would be no plainer.
 #[tactic(auto, using(crate::proofs::Writing::head_put, crate::proofs::Lengths::head_short))]
 fn put_head(out: &mut Page<'_>, head: Shedder)
     ensures same_reference { out.new.out.ghost_name ≡ out.old.out.ghost_name }

@@ -43,7 +43,8 @@ pub fn put_decimal(out: &mut [u8], at: usize, n: u64) -> usize
     put(out, at, &digits[..k])
 }
 
-// n in lowercase hexadecimal, with no zero in front.
+// n in lowercase hexadecimal, with no zero in front. One function with put_word, over the count of digits, would have a clause
+// for each of the two definitions, and be no plainer.
 #[tactic(auto, using(crate::proofs::Numbers::fewest_hexadecimal))]
 pub fn put_hexadecimal(out: &mut [u8], at: usize, n: u64) -> usize
     ensures { page out.new result ≡ write (page out.old at) (number.hexadecimal n) }
