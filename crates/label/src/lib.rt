@@ -8,6 +8,8 @@ ghost use Rattle.text.specs.Order.{less as before};
 ghost use Rattle.label.specs.Label.{label, key_label, v4_label, v6_label};
 
 use sender::{Group, PublicKey, Unit};
+use std::marker::Model;
+use text::Page;
 
 // The longest label, that of a key.
 pub const LABEL_MOST: usize = 68;
@@ -18,11 +20,13 @@ pub const LABEL_MOST: usize = 68;
 fn key_text(key: PublicKey, out: &mut [u8; LABEL_MOST]) -> usize
     ensures { page out.new result ≡ write (page out.old 0) (key_label key) }
 {
-    let colon = text::put(out, 0, b"key:");
-    let a = text::put_word(out, colon, key.a);
-    let b = text::put_word(out, a, key.b);
-    let c = text::put_word(out, b, key.c);
-    text::put_word(out, c, key.d)
+    let mut text = Page::at_front(out);
+    text.put(b"key:");
+    text.put_word(key.a);
+    text.put_word(key.b);
+    text.put_word(key.c);
+    text.put_word(key.d);
+    text.at
 }
 
 #[tactic(auto, using(crate::proofs::Labels::five_written, crate::proofs::Labels::decimal_short), unfolding(crate::specs::Label::v4_label))]
@@ -30,22 +34,26 @@ fn v4_text(prefix: u16, out: &mut [u8; LABEL_MOST]) -> usize
     ensures { page out.new result ≡ write (page out.old 0) (v4_label prefix) }
 {
     let [high, low] = prefix.to_be_bytes();
-    let colon = text::put(out, 0, b"v4:");
-    let first = text::put_decimal(out, colon, u64::from(high));
-    let dot = text::put(out, first, b".");
-    let second = text::put_decimal(out, dot, u64::from(low));
-    text::put(out, second, b".0.0/16")
+    let mut text = Page::at_front(out);
+    text.put(b"v4:");
+    text.put_decimal(u64::from(high));
+    text.put(b".");
+    text.put_decimal(u64::from(low));
+    text.put(b".0.0/16");
+    text.at
 }
 
 #[tactic(auto, using(crate::proofs::Labels::five_written, crate::proofs::Labels::hexadecimal_short), unfolding(crate::specs::Label::v6_label))]
 fn v6_text(prefix: u32, out: &mut [u8; LABEL_MOST]) -> usize
     ensures { page out.new result ≡ write (page out.old 0) (v6_label prefix) }
 {
-    let colon = text::put(out, 0, b"v6:");
-    let first = text::put_hexadecimal(out, colon, u64::from(prefix >> 16));
-    let dot = text::put(out, first, b":");
-    let second = text::put_hexadecimal(out, dot, u64::from(prefix % (1 << 16)));
-    text::put(out, second, b"::/32")
+    let mut text = Page::at_front(out);
+    text.put(b"v6:");
+    text.put_hexadecimal(u64::from(prefix >> 16));
+    text.put(b":");
+    text.put_hexadecimal(u64::from(prefix % (1 << 16)));
+    text.put(b"::/32");
+    text.at
 }
 
 #[tactic(auto, unfolding(crate::specs::Label::label))]
@@ -71,24 +79,33 @@ pub fn label_text(unit: Unit, out: &mut [u8; LABEL_MOST]) -> usize
 }
 
 // A label by value.
-#[derive(Clone, Copy)]
-struct Label {
+#[derive(Drop)]
+pub struct Label {
     bytes: [u8; LABEL_MOST],
     len: usize,
-    ghost fits: { len ≤ 68 },
+}
+
+impl Model for Label {
+    ghost use Rattle.std.specs.Prelude.{ℕ, List, take, ◌≤◌};
+
+    ghost Value = { List ℕ };
+
+    ghost view = { λ l. take l.len l.bytes };
+
+    ghost invariant = { λ l. l.len ≤ 68 };
 }
 
 impl Label {
-    fn of(unit: Unit) -> Label
-        ensures { take result.len result.bytes ≡ label unit }
+    pub fn of(unit: Unit) -> Label
+        ensures { result ≡ label unit }
     {
         let mut bytes = [0; LABEL_MOST];
         let len = label_text(unit, &mut bytes);
         Label { bytes, len }
     }
 
-    fn as_bytes(&self) -> &[u8]
-        ensures { result.now ≡ take self.now.len self.now.bytes }
+    pub fn as_bytes(&self) -> &[u8]
+        ensures { result.now ≡ self.now }
     {
         &self.bytes[..self.len]
     }

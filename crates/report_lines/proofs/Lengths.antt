@@ -2,18 +2,12 @@
 use mathlib.Core.Path.{◌≡◌}
 use mathlib.Core.Bool.{Bool, true, false, cond}
 use mathlib.Core.List.{List, [], ◌∷◌, ◌++◌}
-use Prim.Native.Nat.{ℕ, zero, suc, ◌+◌, ◌*◌, ◌/◌, ◌%◌, ◌≤◌, ◌<◌}
+use Prim.Native.Nat.{ℕ, zero, suc, ◌+◌, ◌*◌, ◌≤◌, ◌<◌}
 use native.Mathlib.Omega.{arith}
 use lib.Dec.{eqb}
 use lib.ListN.{length, get_or, length-append}
 use Rattle.text.specs.Page.{joined}
 use Rattle.text.specs.Number.{decimal}
-use Rattle.text.proofs.Numbers.{length_word}
-use Rattle.sender.specs.declared.PublicKey.{PublicKey}
-use Rattle.sender.specs.declared.Group.TheVariants.{V4, V6}
-use Rattle.sender.specs.declared.Unit.{Unit}
-use Rattle.sender.specs.declared.Unit.TheVariants.{Corroborated, Group as Grouped, NoAddress, Overflow}
-use Rattle.label.specs.Label.{label, key_label, v4_label, v6_label}
 use Rattle.label.proofs.Labels.{decimal_short, label_short}
 use Rattle.flow.specs.Flow.{dims}
 use Rattle.head.specs.declared.Shedder.{Shedder}

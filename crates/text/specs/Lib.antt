@@ -1,3 +1,4 @@
 pub mod Page
 pub mod Number
 pub mod Order
+pub mod Pages

@@ -5,12 +5,14 @@
 #![tactic(auto)]
 
 mod order;
+mod page;
 
 ghost use Rattle.std.specs.Prelude.{◌≡◌, [], ◌∷◌, length};
 ghost use Rattle.text.specs.Page.{page, write};
 ghost use Rattle.text.specs.Number as number;
 
 pub use order::{less, same};
+pub use page::Page;
 
 // Puts the bytes of text into out from the place at on.
 #[tactic(auto, using(crate::proofs::Writing::refused))]

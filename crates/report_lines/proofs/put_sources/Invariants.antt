@@ -1,7 +1,8 @@
 -- `report_lines::put_sources` meets its contract: the loop has the sources after the last one still to write. Assumes nothing.
 use Rattle.report_lines.specs.Lines.{source_lines}
 use Rattle.report_ranking.specs.Sources.{SOURCES_REPORTED, named, reported}
-use Rattle.text.specs.Page.{page, writes}
+use Rattle.text.specs.Page.{writes}
+use Rattle.text.specs.Pages.{seen}
 use Prim.Native.Nat.{◌≤◌, ◌-◌}
 use mathlib.Core.Path.{◌≡◌}
 use Rattle.report_lines.proofs.put_sources.Given as goal
@@ -9,4 +10,5 @@ use Rattle.report_lines.proofs.put_sources.Given as goal
 abbrev pub invariant-loop : goal.invariant-loop
 invariant-loop l =
     (l.last ≤ l.n)
-    × (writes (page l.initial.out l.at) (source_lines l.counted (reported l.counted l.n)) ≡ writes (page l.out l.end) (source_lines l.counted (named l.counted l.n (SOURCES_REPORTED - l.counter) l.last)))
+    × (l.out.out.ghost_name ≡ l.initial.out.out.ghost_name)
+    × (writes (seen l.initial.out) (source_lines l.counted (reported l.counted l.n)) ≡ writes (seen l.out) (source_lines l.counted (named l.counted l.n (SOURCES_REPORTED - l.counter) l.last)))
