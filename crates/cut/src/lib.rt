@@ -31,16 +31,11 @@ fn hands_back(rate: [u64; DIMS], cause: Cause) -> bool
 }
 
 // What was admitted, less this cost, down to 0.
+#[tactic(auto, unfolding(crate::specs::Cutting::lowered))]
 fn lowered(xs: [f64; DIMS], cost: [f64; DIMS]) -> [f64; DIMS]
     ensures { result ≡ cutting.lowered xs cost }
 {
-    let mut out = [0.0; DIMS];
-    let mut d = 0;
-    while d < DIMS {
-        out[d] = ieee::max(xs[d] - cost[d], 0.0);
-        d += 1;
-    }
-    out
+    flow::per_dim(|d| ieee::max(xs[d] - cost[d], 0.0))
 }
 
 // Tokens go back up to the burst; the clock stays.

@@ -13,16 +13,11 @@ use store::{SourceRow, UnitRow, UseRow};
 use wants::{Counts, Sums};
 
 // Sums in each dimension, modulo 2^64.
+#[tactic(auto, unfolding(fair_row::specs::Replay::sums))]
 fn sums(xs: [u64; DIMS], ys: [u64; DIMS]) -> [u64; DIMS]
     ensures { result ≡ replay.sums xs ys }
 {
-    let mut out = [0u64; DIMS];
-    let mut d = 0;
-    while d < DIMS {
-        out[d] = std::num::wrapping_add_u64(xs[d], ys[d]);
-        d += 1;
-    }
-    out
+    flow::per_dim(|d| xs[d].wrapping_add(ys[d]))
 }
 
 // What a list left, and the totals over the calls of the run, modulo 2^64.
@@ -39,57 +34,31 @@ pub struct Replayed {
 }
 
 // Whether a call is one of the run: its row is, and it was not refused by number.
+#[tactic(auto, unfolding(fair_row::specs::Replay::counts))]
 fn counts(inside: bool, number: u64) -> bool
     ensures { result ≡ replay.counts inside number }
 {
-    if inside {
-        return number == 0;
-    }
-    false
+    inside && number == 0
 }
 
 // A call more.
 fn after(run: Replayed, t: Turned, inside: bool) -> Replayed
     ensures { runs.Adds inside run t result }
 {
-    let head = t.head;
-    let admitted = run.admitted;
-    let admitted_on = run.admitted_on;
-    let handed = run.handed;
-    if counts(inside, t.number) {
-        let more = t.admitted;
-        let more_on = t.admitted_on;
-        let back = t.handed;
-        let admits = sums(admitted, more);
-        let admits_on = sums(admitted_on, more_on);
-        let hands = sums(handed, back);
-        let taken = std::num::wrapping_add_u64(run.taken, 1);
+    if !counts(inside, t.number) {
         return Replayed {
-            head,
-            admitted: admits,
-            admitted_on: admits_on,
-            handed: hands,
-            taken,
-            over_share: t.over_share,
+            head: t.head,
+            ..run
         };
     }
     Replayed {
-        head,
-        admitted,
-        admitted_on,
-        handed,
-        taken: run.taken,
-        over_share: run.over_share,
+        head: t.head,
+        admitted: sums(run.admitted, t.admitted),
+        admitted_on: sums(run.admitted_on, t.admitted_on),
+        handed: sums(run.handed, t.handed),
+        taken: run.taken.wrapping_add(1),
+        over_share: t.over_share,
     }
-}
-
-fn least(a: usize, b: usize) -> usize
-    ensures { result ≡ min a b }
-{
-    if a < b {
-        return a;
-    }
-    b
 }
 
 // The rows before row `to`, in order, all where there are fewer; those from row `from` on are the run. `watched` names the
@@ -114,25 +83,20 @@ pub fn replay(
         (replay.held result.head tags.new units.new uses.new counts.new sums.new counted.new)
         out.new }
 {
-    let none = [0u64; DIMS];
     let mut run = Replayed {
         head,
-        admitted: none,
-        admitted_on: none,
-        handed: none,
+        admitted: [0; DIMS],
+        admitted_on: [0; DIMS],
+        handed: [0; DIMS],
         taken: 0,
         over_share: false,
     };
-    let end = least(to, list.len());
-    let mut i = 0;
-    while i < end {
-        let row = list[i];
-        let held = run.head;
+    let end = to.min(list.len());
+    for i in 0..end {
         let turned = fair_row::turn(
-            held, tags, units, uses, counts, sums, counted, watched, row, out,
+            run.head, tags, units, uses, counts, sums, counted, watched, list[i], out,
         );
         run = after(run, turned, from <= i);
-        i += 1;
     }
     run
 }

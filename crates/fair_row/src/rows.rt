@@ -17,14 +17,9 @@ pub fn words_in(row: [u64; 7 + DIMS]) -> Words
     }
 }
 
+#[tactic(auto, unfolding(crate::specs::Replay::cost_in))]
 pub fn cost_in(row: [u64; 7 + DIMS]) -> [u64; DIMS]
     ensures { result ≡ replay.cost_in row }
 {
-    let mut cost = [0u64; DIMS];
-    let mut d = 0;
-    while d < DIMS {
-        cost[d] = row[7 + d];
-        d += 1;
-    }
-    cost
+    flow::per_dim(|d| row[7 + d])
 }

@@ -145,28 +145,18 @@ fn is_max(r: u64) -> bool
     r == UNBOUNDED
 }
 
+#[tactic(auto, unfolding(crate::specs::Questions::all_rates))]
 fn all_rates(xs: [u64; DIMS]) -> bool
     ensures { result ≡ asked.all_rates xs }
 {
-    let mut ok = true;
-    let mut d = 0;
-    while d < DIMS {
-        ok = both(ok, is_rate(xs[d]));
-        d += 1;
-    }
-    ok
+    flow::each_passes(|d| is_rate(xs[d]))
 }
 
+#[tactic(auto, unfolding(crate::specs::Questions::is_unbounded, crate::specs::Questions::is_max))]
 pub fn is_unbounded(xs: [u64; DIMS]) -> bool
     ensures { result ≡ asked.is_unbounded xs }
 {
-    let mut ok = true;
-    let mut d = 0;
-    while d < DIMS {
-        ok = both(ok, is_max(xs[d]));
-        d += 1;
-    }
-    ok
+    flow::each_passes(|d| xs[d] == UNBOUNDED)
 }
 
 // A stamp of 53 bits; question 6.
@@ -178,16 +168,11 @@ fn is_stamp(t: u64) -> bool
 }
 
 // Question 5.
+#[tactic(auto, unfolding(crate::specs::Questions::costs_held))]
 fn costs_held(xs: [u64; DIMS]) -> bool
     ensures { result ≡ asked.costs_held xs }
 {
-    let mut ok = true;
-    let mut d = 0;
-    while d < DIMS {
-        ok = both(ok, xs[d] <= COST_MOST);
-        d += 1;
-    }
-    ok
+    flow::each_passes(|d| xs[d] <= COST_MOST)
 }
 
 #[tactic(auto, unfolding(crate::specs::Questions::tables_whole))]
@@ -333,34 +318,19 @@ pub fn read_asked(h: Shedder) -> Result<(), Refusal>
 
 // ---- the start
 
+#[tactic(auto, unfolding(crate::specs::Start::buckets))]
 fn buckets(rate: [u64; DIMS], ceiling: [u64; DIMS]) -> [Bucket; DIMS]
     ensures { result ≡ starts.buckets rate ceiling }
 {
-    let none = Bucket {
-        tokens: 0.0,
-        burst: 0.0,
-        rate_per_ms: 0.0,
-    };
-    let mut out = [none; DIMS];
-    let mut d = 0;
-    while d < DIMS {
-        out[d] = Bucket::new(rate[d], ceiling[d]);
-        d += 1;
-    }
-    out
+    flow::per_dim(|d| Bucket::new(rate[d], ceiling[d]))
 }
 
 // Before the first scan the level is the rate.
+#[tactic(auto, unfolding(crate::specs::Start::first_levels))]
 fn first_levels(rate: [f64; DIMS]) -> [f64; DIMS]
     ensures { result ≡ starts.first_levels rate }
 {
-    let mut out = [0.0; DIMS];
-    let mut d = 0;
-    while d < DIMS {
-        out[d] = ieee::min(rate[d], LEVEL_MOST);
-        d += 1;
-    }
-    out
+    flow::per_dim(|d| ieee::min(rate[d], LEVEL_MOST))
 }
 
 // The head at a start.

@@ -26,16 +26,11 @@ pub struct Judgement {
 }
 
 // What was admitted so far, and this cost.
+#[tactic(auto, unfolding(crate::specs::Judging::raised))]
 fn raised(xs: [f64; DIMS], cost: [f64; DIMS]) -> [f64; DIMS]
     ensures { result ≡ judging.raised xs cost }
 {
-    let mut out = [0.0; DIMS];
-    let mut d = 0;
-    while d < DIMS {
-        out[d] = xs[d] + cost[d];
-        d += 1;
-    }
-    out
+    flow::per_dim(|d| xs[d] + cost[d])
 }
 
 // The rank of the record used: the unit's, by its hash, or overflow's.
