@@ -1,19 +1,7 @@
--- A source without the tag is not the unit's; the tags that go with the rows, source by source. Assumes nothing.
+-- The tags that go with the rows, source by source. Assumes nothing.
 use Rattle.std.proofs.Common.{◌≡◌, ℕ, zero, suc, ◌+◌, Bool, true, false, cond, ltb, List, length, set, sym, refl, ap, ◌∙◌, add-one, length-set}
 use Rattle.sender.specs.declared.Name.{Name}
-use Rattle.sender.specs.declared.Words.{Words}
-use Rattle.store.specs.Store.{has_tag}
-use Rattle.cut_sources.specs.Counted.{Sources, sources, reads_as, counted_is, counted_find, count_tags, tag_moved, total_at, totals, keep_from, prune, prune_tags, pruned_tags}
-
-pub no_tag : (tags : List ℕ) (rows : List (List ℕ)) (name : Name) (k : ℕ) → has_tag tags name.tag k ≡ false → counted_is tags rows name k ≡ false
-unfolding has_tag counted_is
-no_tag tags rows name k e = rw e
-
--- one that has it is the unit's as its row says
-pub by_row : (tags : List ℕ) (rows : List (List ℕ)) (name : Name) (w : Words) (k : ℕ) (r : Bool) → w ≡ name.words → has_tag tags name.tag k ≡ true
-    → r ≡ reads_as rows w k → counted_is tags rows name k ≡ r
-unfolding has_tag counted_is
-by_row tags rows name w k r e t h = rw t (ap (λ (w : Words). reads_as rows w k) (sym e) ∙ sym h)
+use Rattle.cut_sources.specs.Counted.{Sources, sources, counted_find, count_tags, tag_moved, total_at, totals, keep_from, prune, prune_tags, pruned_tags}
 
 pub prune_tags_none : (tags : List ℕ) (rows : List (List ℕ)) (k : ℕ) → prune_tags tags rows k 0 ≡ tags
 unfolding prune_tags
