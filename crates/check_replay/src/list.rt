@@ -6,9 +6,7 @@ use flow::DIMS;
 use sender::Unit;
 use std::alloc::Global;
 use std::io::{self, BufRead};
-use trial_script::{
-    Amounts, CutLine, JudgeLine, LINE_MOST, Line, StartLine, first, numbers, rest,
-};
+use trial_script::{Amounts, CutLine, JudgeLine, LINE_MOST, Line, StartLine, first, numbers, rest};
 
 // A call as `replay` takes it: words, of which the first is its number.
 pub type Row = [u64; 7 + DIMS];
