@@ -1,4 +1,4 @@
-use Rattle.head.specs.Questions.{all_rates, is_rate}
+use Rattle.head.specs.Questions.{all_rates}
 use Rattle.flow.proofs.Parts.{all_none, all_next}
 use Rattle.flow.specs.Flow.{dims}
 use native.Mathlib.Omega.{arith}

@@ -1,4 +1,4 @@
-use Rattle.head.specs.Questions.{is_unbounded, is_max}
+use Rattle.head.specs.Questions.{is_unbounded}
 use Rattle.flow.proofs.Parts.{all_none, all_next}
 use Rattle.flow.specs.Flow.{dims}
 use native.Mathlib.Omega.{arith}
