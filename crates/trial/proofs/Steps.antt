@@ -1,12 +1,12 @@
 -- What a call leaves is the definition's state: each kind of line, from what the functions that it calls promise. Assumes nothing.
 use mathlib.Core.Path.{◌≡◌, sym, ap, ◌∙◌}
 use mathlib.Core.Bool.{Bool, true, false, cond}
-use mathlib.Core.List.{List}
+use mathlib.Core.List.{List, []}
 use Prim.Native.Nat.{ℕ, ◌≤◌, ◌<◌}
 use borrow.Author.Tests.{eq-eqb, ne_eqb, le-leb, lt-leb}
 use lib.Dec.{eqb}
 use lib.ListN.{length, length-replicate}
-use Rattle.text.specs.Page.{Page, write}
+use Rattle.text.specs.Page.{Page, page, write}
 use Rattle.store.specs.Store.{Rows}
 use Rattle.wants.specs.Wants.{Hist}
 use Rattle.head.specs.declared.Shedder.{Shedder}
