@@ -158,10 +158,7 @@ fn cut_turn(
     let cut = cut::cut(head, tags, units, uses, counted, unit, cause, cost);
     let handed = counted_if(is_hand_back(cause), cost);
     let none = Turned::to_nothing(cut.head, answer_number(cut.answer));
-    Turned {
-        handed,
-        ..none
-    }
+    Turned { handed, ..none }
 }
 
 // One call; out is the buffer of a report.
