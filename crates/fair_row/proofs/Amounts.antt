@@ -28,9 +28,9 @@ use Rattle.sender.specs.declared.Unit as unit
 use Rattle.fair.specs.Calls as calls
 use Rattle.fair.specs.Calls.{State, Call, Judge, Cut, Read}
 use Rattle.fair_row.specs.declared.Turned.{Turned}
-use Rattle.fair_row.specs.Replay.{Turns, is_admitted, is_over_share, is_hand_back, counted_if, amounts, over_share, key_of, on_watched, to_nothing}
+use Rattle.fair_row.specs.Replay.{Turns, is_admitted, is_over_share, is_hand_back, counted_if, amounts, key_of, on_watched, empty}
 use Rattle.fair_row.proofs.Watched.{watched_is}
-use Rattle.fair_row.proofs.Totals.{same_parts, parts_at, zeros_parts}
+use Rattle.fair_row.proofs.Totals.{same_parts, zeros_parts}
 
 abbrev turned : Shedder → ℕ → List ℕ → List ℕ → List ℕ → Bool → Turned
 turned h n admitted on handed over = record { head = h; number = n; admitted = admitted; admitted_on = on; handed = handed; over_share = over }
@@ -116,7 +116,7 @@ cut_turns h m l u c cost j m' l' back xs x ec e en eb ex watched g =
     }
 
 -- ---- a reading leaves head and memory as they were, and amounts to nothing
-pub read_turns : (watched : unit.Unit) (h : Shedder) (m : Memory) (q : calls.Reading) (x : ℕ) → x ≡ calls.read_number (calls.state_of h m) q → Turns watched (calls.state_of h m) (Read q) (to_nothing h x) (calls.state_of h m)
+pub read_turns : (watched : unit.Unit) (h : Shedder) (m : Memory) (q : calls.Reading) (x : ℕ) → x ≡ calls.read_number (calls.state_of h m) q → Turns watched (calls.state_of h m) (Read q) (empty h x) (calls.state_of h m)
 read_turns watched h m q x e =
     let s = calls.state_of h m in
     record {

@@ -162,8 +162,8 @@ on_watched tags units tracked room watched u = calls.same_key (key_of watched) (
 
 -- ---- one call
 -- of a call that amounts to nothing
-abbrev pub to_nothing : Shedder → ℕ → Turned
-to_nothing h n = record { head = h; number = n; admitted = replicate dims 0; admitted_on = replicate dims 0; handed = replicate dims 0; over_share = false }
+abbrev pub empty : Shedder → ℕ → Turned
+empty h n = record { head = h; number = n; admitted = replicate dims 0; admitted_on = replicate dims 0; handed = replicate dims 0; over_share = false }
 
 -- what the program has after the call c: head and memory t, the number of its refusal, and what it amounts to; of a refused call what it amounts to on the watched record is left open, since nothing counts it
 pub record Turns (watched : unit.Unit) (s : State) (c : Call) (r : Turned) (t : State) : Type 0 where

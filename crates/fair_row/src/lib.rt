@@ -92,8 +92,8 @@ pub struct Turned {
 
 impl Turned {
     // A call that amounts to nothing.
-    fn to_nothing(head: Shedder, number: u64) -> Turned
-        ensures { result ≡ replay.to_nothing head number }
+    fn empty(head: Shedder, number: u64) -> Turned
+        ensures { result ≡ replay.empty head number }
     {
         Turned {
             head,
@@ -131,7 +131,7 @@ fn judge_turn(
     let admitted = counted_if(is_admitted(judged.answer), cost);
     let admitted_on = counted_if(mine, admitted);
     let over_share = is_over_share(judged.answer);
-    let none = Turned::to_nothing(judged.head, answer_number(judged.answer));
+    let none = Turned::empty(judged.head, answer_number(judged.answer));
     Turned {
         admitted,
         admitted_on,
@@ -157,7 +157,7 @@ fn cut_turn(
 {
     let cut = cut::cut(head, tags, units, uses, counted, unit, cause, cost);
     let handed = counted_if(is_hand_back(cause), cost);
-    let none = Turned::to_nothing(cut.head, answer_number(cut.answer));
+    let none = Turned::empty(cut.head, answer_number(cut.answer));
     Turned { handed, ..none }
 }
 
@@ -192,7 +192,7 @@ pub fn turn(
         }
         Call::Read(reading) => {
             let number = answer_reading(head, tags, units, uses, counted, reading, out);
-            Turned::to_nothing(head, number)
+            Turned::empty(head, number)
         }
     }
 }

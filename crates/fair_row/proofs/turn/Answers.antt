@@ -10,4 +10,4 @@ returns-in-Cut-clause-turns c = rw c.in-Cut.is (c.cut_turn.ensures _ _)
 pub returns-in-Read-clause-turns : goal.returns-in-Read-clause-turns
 unfolding call_of
 returns-in-Read-clause-turns c =
-    rw (c.in-Read.is, c.to_nothing.ensures) (read_turns _ _ _ _ _ (c.answer_reading-number.ensures.value (hist c.args.counts.now c.args.sums.now)))
+    rw (c.in-Read.is, c.empty.ensures) (read_turns _ _ _ _ _ (c.answer_reading-number.ensures.value (hist c.args.counts.now c.args.sums.now)))
