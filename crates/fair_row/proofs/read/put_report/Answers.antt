@@ -1,7 +1,7 @@
 -- `put_report` meets its contract: the part that `report` returned is put into the buffer, or `write_report` has written it. Assumes nothing.
 use mathlib.Core.Path.{sym, ap, ◌∙◌}
 use Rattle.report.specs.Report as reports
-use Rattle.fair_row.proofs.Reading.{front_length, part_put}
+use Rattle.fair_row.proofs.Reported.{front_length, part_put}
 use Rattle.fair_row.proofs.read.put_report.Goals as goal
 
 pub slice_bounds-report-end : goal.slice_bounds-report-end
