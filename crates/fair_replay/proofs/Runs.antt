@@ -9,7 +9,7 @@ use Rattle.fair.specs.Calls as calls
 use Rattle.fair.specs.Calls.{State, Call, Event, event, events, state_of}
 use Rattle.fair_row.specs.declared.Call as given
 use Rattle.fair_row.specs.declared.Turned.{Turned}
-use Rattle.fair_row.specs.Replay.{Run, Turns, run, call_of, behind, counts, page_after, amounts, sums, totals, over_share, ends_over_share, key_of}
+use Rattle.fair_row.specs.Replay.{Run, Turns, run, call_of, behind, counts, page_after, amounts, sums, totals, ends_over_share, key_of}
 use Rattle.fair_row.proofs.Turning.{headed, run_none, list_next, page_next, taken_next, run_next}
 use Rattle.fair_row.proofs.Totals.{taken_before, counted_next, totals_none, totals_more, taken_more, over_none, over_more}
 use Rattle.fair_replay.specs.declared.Replayed.{Replayed}
