@@ -156,8 +156,9 @@ fn line(
     let a = trial::answer(
         t, tags, units, uses, counts, sums, counted, line, &mut page,
     );
-    check_steps::line(rt, line, trial_script::front(page.out, page.at))?;
-    let mut tried = written(Ok(None), a.head, page.at);
+    let at = page.at;
+    check_steps::line(rt, line, trial_script::front(page.out, at))?;
+    let mut tried = written(Ok(None), a.head, at);
     tried.unchanged = a.is_started == is_started;
     Ok(tried)
 }
