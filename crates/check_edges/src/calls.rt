@@ -153,9 +153,7 @@ fn line(
     } = lent;
     let t = Trial { head, is_started };
     let mut page = Page::at_front(out);
-    let a = trial::answer(
-        t, tags, units, uses, counts, sums, counted, line, &mut page,
-    );
+    let a = trial::answer(t, tags, units, uses, counts, sums, counted, line, &mut page);
     let at = page.at;
     check_steps::line(rt, line, trial_script::front(page.out, at))?;
     let mut tried = written(Ok(None), a.head, at);
