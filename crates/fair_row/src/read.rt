@@ -8,6 +8,7 @@ use crate::Reading;
 use codes::answer_number;
 use head::Shedder;
 use store::{SourceRow, UnitRow, UseRow};
+use text::Page;
 
 // The longest buffer that is written through `report`: the trial's.
 const PAGE: usize = 4096;
@@ -35,7 +36,8 @@ fn put_report(
         let refusal = report::report_refusal(head, tags, units, uses, counted, out);
         let mut own = [0u8; PAGE];
         let part = report::report(head, tags, units, uses, counted, &mut own[..room]);
-        text::put(out, 0, part);
+        let mut page = Page::at_front(out);
+        page.put(part);
         return answer_number(refusal);
     }
     answer_number(report::write_report(head, tags, units, uses, counted, out))
