@@ -189,6 +189,7 @@ fn swept(
         ≡ walking.walk (held records.new) table at_ms result
         (walking.walk_overflow overflow table at_ms (wants.hist counts.old sums.old)) }
     ensures upper_bound { result ≤ tracked }
+    ensures slices { SameSlices records.old records.new }
 {
     walk_overflow(counts, sums, overflow, table, at_ms);
     let i = walk_to_stale(records, counts, sums, tracked, table, at_ms);
@@ -213,6 +214,7 @@ fn visit(
         ≡ scanning.visit (scanning.scanning h.old (held records.old) (wants.hist counts.old sums.old)) }
     ensures tracked_le_tracked { h.new.tracked ≤ h.old.tracked }
     ensures next_bound_2 { h.new.scan.remaining + h.new.scan.next ≤ sender.«TABLES» }
+    ensures slices { SameSlices records.old records.new }
 {
     let n = swept(
         records,
@@ -237,8 +239,9 @@ fn again(
     requires tracked_in_bounds_2 { h.old.tracked ≤ length records.old.units.now }
     requires tracked_in_bounds_3 { h.old.tracked ≤ length records.old.uses.now }
     requires next_bound { h.old.scan.remaining + h.old.scan.next ≤ sender.«TABLES» }
-    ensures { scanning.scanning h.new (held records.new) (wants.hist counts.new sums.new)
+    ensures sums_after { scanning.scanning h.new (held records.new) (wants.hist counts.new sums.new)
         ≡ scanning.again (scanning.scanning h.old (held records.old) (wants.hist counts.old sums.old)) }
+    ensures slices { SameSlices records.old records.new }
 {
     if h.scan.remaining >= 1 {
         visit(h, records, counts, sums);
@@ -299,8 +302,9 @@ pub fn scanned(
     requires tracked_in_bounds_3 { h.tracked ≤ length records.old.uses.now }
     requires began_ms_bound { h.scan.began_ms < asked.STAMP_END }
     requires next_bound { h.scan.remaining + h.scan.next ≤ sender.«TABLES» }
-    ensures { scanning.scanning result (held records.new) (wants.hist counts.new sums.new)
+    ensures sums_after { scanning.scanning result (held records.new) (wants.hist counts.new sums.new)
         ≡ scanning.scanned (scanning.scanning h (held records.old) (wants.hist counts.old sums.old)) clock }
+    ensures slices { SameSlices records.old records.new }
 {
     if !is_running(&mut h, counts, sums, clock) {
         return h;
