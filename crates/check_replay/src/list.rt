@@ -1,16 +1,18 @@
 // Standard input as lists of calls: each line of the trial's language as rows of `replay`. An R line begins a list, and each
 // W line behind it runs it.
 use crate::runs;
+use check_lines::whole_line;
 use flow::DIMS;
 use sender::Unit;
-use std::io::{self, Read};
-use trial_script::{Amounts, CutLine, FEED, JudgeLine, LINE, LINE_MOST, Line, StartLine, front};
+use std::alloc::Global;
+use std::io::{self, BufRead};
+use trial_script::{Amounts, CutLine, JudgeLine, LINE_MOST, Line, StartLine, first, numbers, rest};
+
+// A call as `replay` takes it: words, of which the first is its number.
+pub type Row = [u64; 7 + DIMS];
 
 // The rows that a list may have.
-pub const ROWS: usize = 4096;
-
-// The bytes read at once.
-const BLOCK: usize = 65536;
+const ROWS: usize = 4096;
 
 // The numbers of `replay` for the calls that a line gives.
 const JUDGE: u64 = 0;
@@ -21,44 +23,14 @@ const REPORT: u64 = 2;
 
 const IS_BOUNDED: u64 = 8;
 
-// The last R line; how many rows there are since, and whether a row more found no room; how many bytes of the line that is
-// being read are kept, and whether the input has ended.
-#[derive(Clone, Copy)]
+// The last R line, and the rows since.
+#[derive(Drop)]
 struct List {
     start: StartLine,
-    rows: usize,
-    is_cut_off: bool,
-    len: usize,
-    is_over: bool,
+    rows: Vec<Row>,
 }
 
-fn none() -> List {
-    let rate = Amounts {
-        receptions: 0,
-        bytes: 0,
-    };
-    let start = StartLine {
-        rate,
-        ceiling: rate,
-    };
-    List {
-        start,
-        rows: 0,
-        is_cut_off: false,
-        len: 0,
-        is_over: false,
-    }
-}
-
-// The first n rows; all of them where there are fewer.
-fn first_rows(rows: &[[u64; 7 + DIMS]], n: usize) -> &[[u64; 7 + DIMS]] {
-    if rows.len() < n {
-        return rows;
-    }
-    &rows[..n]
-}
-
-fn row_of(which: u64, unit: Unit, last: u64, cost: Amounts) -> [u64; 7 + DIMS] {
+fn row_of(which: u64, unit: Unit, last: u64, cost: Amounts) -> Row {
     let w = sender::words_of(unit);
     [
         which,
@@ -73,161 +45,109 @@ fn row_of(which: u64, unit: Unit, last: u64, cost: Amounts) -> [u64; 7 + DIMS] {
     ]
 }
 
-fn added(mut l: List, rows: &mut [[u64; 7 + DIMS]; ROWS], row: [u64; 7 + DIMS]) -> List {
-    let n = l.rows;
-    if n < ROWS {
-        rows[n] = row;
-        l.rows = n + 1;
-    } else {
-        l.is_cut_off = true;
+impl List {
+    fn new(alloc: Global) -> List {
+        let none = Amounts {
+            receptions: 0,
+            bytes: 0,
+        };
+        List {
+            start: StartLine {
+                rate: none,
+                ceiling: none,
+            },
+            rows: Vec::new(alloc),
+        }
     }
-    l
-}
 
-fn started(mut l: List, start: StartLine) -> List {
-    l.start = start;
-    l.rows = 0;
-    l.is_cut_off = false;
-    l
-}
-
-fn judgement(l: List, rows: &mut [[u64; 7 + DIMS]; ROWS], j: JudgeLine) -> List {
-    let unit = j.unit;
-    added(l, rows, row_of(JUDGE, unit, j.stamp, j.cost))
-}
-
-fn cut(l: List, rows: &mut [[u64; 7 + DIMS]; ROWS], c: CutLine) -> List {
-    let unit = c.unit;
-    let cause = c.cause;
-    let place = head::index_of(cause);
-    added(l, rows, row_of(CUT, unit, place as u64, c.cost))
-}
-
-// A P line is a report, the call beside it, and each reading of the head; which cause or dimension is read changes from
-// row to row.
-fn readings(list: List, rows: &mut [[u64; 7 + DIMS]; ROWS]) -> List {
-    let mut l = list;
-    let mut which = REPORT;
-    while which <= IS_BOUNDED {
-        let n = (l.rows % 3) as u64;
-        l = added(l, rows, [which, 0, 0, 0, 0, 0, n, 0, 0]);
-        which += 1;
+    // A list of one row more is too long, and is not run: no further row is kept.
+    fn is_too_long(&self) -> bool {
+        self.rows.len() > ROWS
     }
-    l
-}
 
-// `W label from to`, of which s is the part behind `W `: the list is run with that record watched, the run being the rows
-// from `from` to before `to`.
-fn watch(rt: &impl Print, l: List, rows: &[[u64; 7 + DIMS]; ROWS], s: &[u8]) -> io::Result<()> {
-    let Some(watched) = label_parse::parse(trial_script::first(s)) else {
-        return Ok(());
-    };
-    let Some(places) = trial_script::numbers::<2>(trial_script::rest(s)) else {
-        return Ok(());
-    };
-    let [from, to] = places;
-    let list = first_rows(rows, l.rows);
-    runs::run(rt, l.start, list, watched, from as usize, to as usize)
-}
+    fn begin(&mut self, start: StartLine) -> io::Result<()> {
+        self.start = start;
+        self.rows.clear();
+        Ok(())
+    }
 
-// The line is said again, so that what it gives stands below it.
-fn watched(
-    rt: &impl Print,
-    l: List,
-    rows: &[[u64; 7 + DIMS]; ROWS],
-    line: &[u8],
-) -> io::Result<()> {
-    if text::same(trial_script::first(line), b"W") {
+    fn push(&mut self, row: Row) -> io::Result<()> {
+        if !self.is_too_long() {
+            self.rows.push(row)?;
+        }
+        Ok(())
+    }
+
+    fn judge(&mut self, j: JudgeLine) -> io::Result<()> {
+        self.push(row_of(JUDGE, j.unit, j.stamp, j.cost))
+    }
+
+    fn cut(&mut self, c: CutLine) -> io::Result<()> {
+        self.push(row_of(CUT, c.unit, head::index_of(c.cause) as u64, c.cost))
+    }
+
+    // A P line is a report, the call beside it, and each reading of the head; which cause or dimension is read changes from
+    // row to row.
+    fn read_all(&mut self) -> io::Result<()> {
+        for which in REPORT..=IS_BOUNDED {
+            let n = self.rows.len() as u64 % 3;
+            self.push([which, 0, 0, 0, 0, 0, n, 0, 0])?;
+        }
+        Ok(())
+    }
+
+    // `W label from to`: the list is run with that record watched, the run being the rows from `from` to before `to`. The line
+    // is said again, so that what it gives stands below it. Any other line that has no form is no call.
+    fn watch(&self, rt: &impl Print, line: &[u8]) -> io::Result<()> {
+        if first(line) != b"W".as_slice() {
+            return Ok(());
+        }
         rt.write_all(line)?;
-        rt.write_all(b"\n")?;
-        if l.is_cut_off {
+        rt.println("")?;
+        if self.is_too_long() {
             return rt.println("the list is too long");
         }
-        watch(rt, l, rows, trial_script::rest(line))?;
+        let fields = rest(line);
+        let Some(watched) = label_parse::parse(first(fields)) else {
+            return Ok(());
+        };
+        let Some(places) = numbers::<2>(rest(fields)) else {
+            return Ok(());
+        };
+        let [from, to] = places;
+        runs::run(
+            rt,
+            self.start,
+            self.rows.as_slice(),
+            watched,
+            from as usize,
+            to as usize,
+        )
     }
-    Ok(())
-}
 
-// The line that is kept. A line that has no form is no call.
-fn ended(
-    rt: &impl Print,
-    list: List,
-    rows: &mut [[u64; 7 + DIMS]; ROWS],
-    line: &[u8; LINE],
-) -> io::Result<List> {
-    let mut l = list;
-    let whole = front(line, l.len);
-    l.len = 0;
-    if whole.len() > LINE_MOST {
-        return Ok(l);
-    }
-    match trial_script::read_line(whole) {
-        Some(Line::Start(s)) => Ok(started(l, s)),
-        Some(Line::Judge(j)) => Ok(judgement(l, rows, j)),
-        Some(Line::Cut(c)) => Ok(cut(l, rows, c)),
-        Some(Line::Report) => Ok(readings(l, rows)),
-        None => {
-            watched(rt, l, rows, whole)?;
-            Ok(l)
+    fn take(&mut self, rt: &impl Print, line: &[u8]) -> io::Result<()> {
+        if line.len() > LINE_MOST {
+            return Ok(());
+        }
+        match trial_script::read_line(line) {
+            Some(Line::Start(start)) => self.begin(start),
+            Some(Line::Judge(judge)) => self.judge(judge),
+            Some(Line::Cut(cut)) => self.cut(cut),
+            Some(Line::Report) => self.read_all(),
+            None => self.watch(rt, line),
         }
     }
 }
 
-// The lines that end in a block of the input; what stands behind the last is kept.
-fn block(
-    rt: &impl Print,
-    list: List,
-    rows: &mut [[u64; 7 + DIMS]; ROWS],
-    line: &mut [u8; LINE],
-    input: &[u8],
-) -> io::Result<List> {
-    let mut l = list;
-    let mut i = 0;
-    while i < input.len() {
-        let x = input[i];
-        if x == FEED {
-            l = ended(rt, l, rows, line)?;
-        } else {
-            l.len = trial_script::keep(line, l.len, x);
-        }
-        i += 1;
-    }
-    Ok(l)
-}
-
-// Reads once, and takes the lines that came.
-fn turn(
-    rt: &impl Print,
-    reader: &mut impl Read,
-    mut l: List,
-    rows: &mut [[u64; 7 + DIMS]; ROWS],
-    line: &mut [u8; LINE],
-) -> io::Result<List> {
-    let mut input = [0u8; BLOCK];
-    let n = reader.read(&mut input)?;
-    if n == 0 {
-        l.is_over = true;
-        return Ok(l);
-    }
-    block(rt, l, rows, line, &input[..n])
-}
-
-// The whole input; a last line without a line end is not taken. Nothing says that an input ends, so the turns are counted
-// down from a number that no run uses up.
-pub fn read(
-    rt: &impl Print,
-    reader: &mut impl Read,
-    rows: &mut [[u64; 7 + DIMS]; ROWS],
-) -> io::Result<()> {
-    let mut line = [0u8; LINE];
-    let mut l = none();
-    let mut turns = u64::MAX;
-    while turns > 0 {
-        l = turn(rt, reader, l, rows, &mut line)?;
-        if l.is_over {
+// The whole input; a last line without a line end is not taken.
+pub fn run_all(rt: &impl Print, alloc: Global, reader: &mut impl BufRead) -> io::Result<()> {
+    let mut list = List::new(alloc);
+    let mut kept = Vec::new(alloc);
+    for _ in 0..u64::MAX {
+        let Some(line) = whole_line(reader, &mut kept)? else {
             break;
-        }
-        turns -= 1;
+        };
+        list.take(rt, line)?;
     }
     Ok(())
 }

@@ -8,12 +8,9 @@
 mod list;
 mod runs;
 
-use flow::DIMS;
-use list::ROWS;
-use std::io;
+use std::io::{self, BufReader};
 
 fn main(rt: HostRuntime) -> io::Result<()> {
-    let row = [0u64; 7 + DIMS];
-    let mut rows = [row; ROWS];
-    list::read(&rt, &mut rt.stdin(), &mut rows)
+    let alloc = rt.alloc();
+    list::run_all(&rt, alloc, &mut BufReader::new(alloc, rt.reader())?)
 }

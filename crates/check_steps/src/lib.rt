@@ -1,8 +1,7 @@
 // What the program `check_edges` runs, without the calls over lent memory: the cases that crate `check_cases` proves of the definitions, the
-// table of the other steps, the comparison of head and memory, and what is written.
+// other steps, the comparison of head and memory, and what is written.
 #![tactic(auto)]
 
-mod lines;
 mod proved;
 mod readers;
 mod same;
@@ -10,16 +9,15 @@ mod says;
 mod steps;
 mod tells;
 
+use flow::DIMS;
 use head::Shedder;
-pub use lines::{dots_from, rest};
 pub use proved::run;
 pub use readers::{judge_number, reading};
-pub use same::{head, memory};
-pub use steps::{
-    CALL, COUNTED_LENT, OUT_LENT, STAMP, STEPS, TAGS_LENT, UNITS_LENT, USES, amounts, digit,
-    letter, row_of, unfit, unit, value, value_up_to,
-};
-pub use tells::{line, page, step};
+pub use same::{is_as_before, same_head};
+pub use steps::{Call, Read, Step, all_steps};
+use store::{SourceRow, UnitRow, UseRow};
+pub use tells::{line, tell};
+use wants::{BUCKETS, Counts, Sums};
 
 // Unit records, counted records, the tags of both, and the bytes of the report's buffer.
 pub const UNITS: usize = 4;
@@ -29,6 +27,31 @@ pub const COUNTED: usize = 3;
 pub const TAGS: usize = UNITS + COUNTED;
 
 pub const OUT: usize = 4096;
+
+// The shedder's memory.
+#[derive(Clone, Copy)]
+pub struct Memory {
+    pub tags: [u16; TAGS],
+    pub units: [UnitRow; UNITS],
+    pub uses: [UseRow; UNITS],
+    pub counts: Counts,
+    pub sums: Sums,
+    pub counted: [SourceRow; COUNTED],
+}
+
+impl Memory {
+    // No word of it is 0.
+    pub fn new() -> Memory {
+        Memory {
+            tags: [0x0101; TAGS],
+            units: [[0x0202020202020202; 7]; UNITS],
+            uses: [[0.3; 2 * DIMS]; UNITS],
+            counts: [[4; BUCKETS]; DIMS],
+            sums: [[0.5; BUCKETS]; DIMS],
+            counted: [[0x0606060606060606; 8]; COUNTED],
+        }
+    }
+}
 
 // What came of a call: the number that it was refused by, or one of those below; the head after it; how many bytes of the
 // buffer an answer took; and whether all else is as before.
@@ -48,16 +71,13 @@ pub const OVER_SHARE: u64 = 11;
 
 pub const RELAY_RATE: u64 = 12;
 
-pub fn after(number: u64, head: Shedder) -> Tried {
-    written(number, head, 0)
-}
-
-// A call that took so many bytes of the buffer.
-pub fn written(number: u64, head: Shedder, at: usize) -> Tried {
-    Tried {
-        number,
-        head,
-        at,
-        unchanged: true,
+impl Tried {
+    pub fn new(number: u64, head: Shedder) -> Tried {
+        Tried {
+            number,
+            head,
+            at: 0,
+            unchanged: true,
+        }
     }
 }

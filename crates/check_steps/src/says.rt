@@ -1,64 +1,34 @@
-// What is written to standard output. A write that fails ends what writes.
-use std::io;
+// Numbers and outcomes as they are written to standard output.
+use crate::{ADMITTED, DONE, OVER_SHARE, RELAY_RATE};
+use std::fmt;
 
-pub fn text(rt: &impl Print, s: &[u8]) -> io::Result<()> {
-    rt.write_all(s)
-}
-
-pub fn number(rt: &impl Print, n: u64) -> io::Result<()> {
-    print!(rt; "{n}")
-}
-
-pub fn hexadecimal(rt: &impl Print, n: u64) -> io::Result<()> {
-    print!(rt; "{n:016x}")
-}
-
-// A double that is a whole number, or is infinite; any other only as that.
-pub fn double(rt: &impl Print, x: f64) -> io::Result<()> {
-    if x == 1.0 / 0.0 {
-        return text(rt, b"infinite");
-    }
-    let n = whole_part(x);
-    if std::num::nearest_u64_to_f64(n) == x {
-        number(rt, n)
-    } else {
-        text(rt, b"no whole number")
-    }
-}
-
-fn whole_part(x: f64) -> u64 {
-    if x > -1.0 {
-        if x < 18446744073709551616.0 {
-            return std::num::truncating_f64_to_u64(x);
-        }
-    }
-    0
-}
-
-pub fn line_of_number(rt: &impl Print, what: &[u8], n: u64) -> io::Result<()> {
-    text(rt, what)?;
-    number(rt, n)?;
-    text(rt, b"\n")
-}
-
-pub fn line_of_double(rt: &impl Print, what: &[u8], x: f64) -> io::Result<()> {
-    text(rt, what)?;
-    double(rt, x)?;
-    text(rt, b"\n")
-}
+// A level, which may be infinite, or another double.
+#[derive(Clone, Copy)]
+pub struct Level(pub f64);
 
 // What came of a call, by its number.
-pub fn outcome(rt: &impl Print, number: u64) -> io::Result<()> {
-    match number {
-        0 => text(rt, b"started"),
-        10 => text(rt, b"ok"),
-        11 => text(rt, b"over-share"),
-        12 => text(rt, b"relay-rate"),
-        _ => refused(rt, number),
+#[derive(Clone, Copy)]
+pub struct Outcome(pub u64);
+
+impl fmt::Display for Level {
+    fn fmt<W: fmt::Write>(&self, f: &mut fmt::Formatter<W>) -> fmt::Result {
+        let level = self.0;
+        if level == f64::INFINITY {
+            f.write_str("infinite")
+        } else {
+            write!(f, "{level}")
+        }
     }
 }
 
-fn refused(rt: &impl Print, n: u64) -> io::Result<()> {
-    text(rt, b"refused ")?;
-    number(rt, n)
+impl fmt::Display for Outcome {
+    fn fmt<W: fmt::Write>(&self, f: &mut fmt::Formatter<W>) -> fmt::Result {
+        match self.0 {
+            DONE => f.write_str("started"),
+            ADMITTED => f.write_str("ok"),
+            OVER_SHARE => f.write_str("over-share"),
+            RELAY_RATE => f.write_str("relay-rate"),
+            number => write!(f, "refused {number}"),
+        }
+    }
 }

@@ -1,282 +1,410 @@
-// The steps of the program behind the proved cases, as a table: the cases that are run, what makes the memory ready, and
-// the refused calls, of each of which one thing or more is made unfit.
-ghost use Rattle.std.specs.Prelude.{◌≤◌};
-
+// The steps of the program behind the proved cases: the cases that are run, what makes the memory ready, and the refused
+// calls, of each of which one thing or more is made unfit.
 use crate::{COUNTED, UNITS};
-use flow::DIMS;
-use head::Shedder;
+use flow::{DIMS, RATE_MOST};
+use head::{STAMP_END, Shedder};
 use sender::{Group, Unit};
+use std::alloc::{AllocError, Global};
+use trial_script::LINE_MOST;
 
-// The columns of a row.
-pub const CALL: usize = 0;
-
-pub const UNIT: usize = 2;
-
-pub const FAULT: usize = 4;
-
-pub const TAGS_LENT: usize = 6;
-
-pub const UNITS_LENT: usize = 7;
-
-pub const USES: usize = 8;
-
-pub const COUNTED_LENT: usize = 9;
-
-pub const OUT_LENT: usize = 11;
-
-pub const FIRST: usize = 13;
-
-pub const SECOND: usize = 14;
-
-pub const STAMP: usize = 16;
-
-pub const SAYS: usize = 18;
-
-const WIDTH: usize = 20;
-
-const ROWS: usize = 110;
-
-// A row has: the call, a letter, as check_edges/src/calls reads it; the unit, g for a group, else the one with no address; the part
-// of the head that is unfit, as unfit reads it; how many tags, units, uses and counted sources are
-// lent; and as letters of VALUES how many bytes of the report's buffer, the amounts (a start's rates, else a cost) and
-// the stamp. The last says what is written: f, r, i, a, v of a case that is run, t of a call that is refused, b of a
-// report that is written, l of a line that is refused.
-//
-// First the cases that are run: the fresh verdict, the rates, idle, age, scans. Then two judgements, a cut and a
-// histogram with no word 0, for the calls refused: questions 1 and 2 by start, 3 to 6 by judge, 3 to 5 by cut, 3, 4 and 7
-// by each of the report's calls, 3 by each reading; where a row is unfit in more than one way, the first question gives
-// the number. Then the report, which has 135 bytes here, into a buffer of just so many, of one more and of 4,096. Last the
-// lines, question 8.
-fn code(row: usize, column: usize) -> u8 {
-    let all = b"\
-        a     7443 i dd o   \
-        b     7443 i ee j f \
-        a     7443 i aa o r \
-        a     7443 i ss o r \
-        a     7443 i bb o r \
-        a     7443 i rr o r \
-        a     7443 i dd o   \
-        b     7443 i aa a   \
-        b     7443 i ff n i \
-        a     7443 i dd o   \
-        b     7443 i aa a   \
-        b     7443 i ff o i \
-        a     7443 i dd o   \
-        b g   7443 i aa a   \
-        b     7443 i aa p   \
-        b     7443 i aa p a \
-        a     7443 i dd o   \
-        b g   7443 i aa a   \
-        b     7443 i aa q   \
-        b     7443 i aa q a \
-        a     7443 i dd o   \
-        b     7443 i aa j   \
-        b     7443 i aa j v \
-        b     7443 i aa l v \
-        b     7443 i aa m v \
-        a     7443 i dd o   \
-        b     7443 i cc j   \
-        b g   7443 i ff k   \
-        c     7443 i cc o   \
-        l     7443 i bb o   \
-        a     7443 i ab o t \
-        a     7443 i ba o t \
-        a     7443 i sb o t \
-        a     7443 i bs o t \
-        a     7443 i ub o t \
-        a     6443 i bb o t \
-        a     6343 i bb o t \
-        a     7433 i bb o t \
-        a     3003 i bb o t \
-        a     5441 i bb o t \
-        a     0000 i aa o t \
-        b   a 7443 i bb o t \
-        b   b 7443 i bb o t \
-        b   c 7443 i bb o t \
-        b   d 7443 i bb o t \
-        b   e 7443 i bb o t \
-        b   f 7443 i bb o t \
-        b   g 7443 i bb o t \
-        b   h 7443 i bb o t \
-        b   i 7443 i bb o t \
-        b   j 7443 i bb o t \
-        b   k 7443 i bb o t \
-        b   l 7443 i bb o t \
-        b   m 7443 i bb o t \
-        b   n 7443 i bb o t \
-        b     6443 i bb o t \
-        b     6343 i bb o t \
-        b     7433 i bb o t \
-        b     6442 i bb o t \
-        b     7443 i sb o t \
-        b     7443 i bs o t \
-        b     7443 i bb t t \
-        b   a 6443 i ss t t \
-        b     6443 i ss t t \
-        b     7443 i ss t t \
-        c   a 7443 i bb o t \
-        c     6443 i bb o t \
-        c     6343 i bb o t \
-        c     7433 i bb o t \
-        c     6442 i bb o t \
-        c     7443 i sb o t \
-        c     7443 i bs o t \
-        d   a 7443 i bb o t \
-        d     6443 i bb o t \
-        d     6343 i bb o t \
-        d     7433 i bb o t \
-        d     6442 i bb o t \
-        d     7443 h bb o t \
-        d   a 6443 h bb o t \
-        e   a 7443 i bb o t \
-        e     6443 i bb o t \
-        e     6343 i bb o t \
-        e     7433 i bb o t \
-        e     6442 i bb o t \
-        e     7443 h bb o t \
-        e   a 6443 h bb o t \
-        f   a 7443 i bb o t \
-        f     6443 i bb o t \
-        f     6343 i bb o t \
-        f     7433 i bb o t \
-        f     6442 i bb o t \
-        f     7443 h bb o t \
-        f   a 6443 h bb o t \
-        g   a 7443 i bb o t \
-        h   a 7443 i bb o t \
-        i   a 7443 i bb o t \
-        j   a 7443 i bb o t \
-        k   a 7443 i bb o t \
-        d     7443 v bb o b \
-        d     7443 w bb o b \
-        d     7443 x bb o b \
-        e     7443 v bb o b \
-        e     7443 w bb o b \
-        e     7443 x bb o b \
-        m     7443 g bb o l \
-        n     7443 g bb o l \
-        o     7443 g bb o l \
-        p     7443 g bb o l \
-        q     7443 g bb o l \
-        r     7443 g bb o l ";
-    all[row % ROWS * WIDTH + column % WIDTH]
+// A reading of the head, by its number in `readers::reading`.
+#[derive(Clone, Copy)]
+pub enum Read {
+    Visited = 7,
+    CutBatches,
+    Level,
+    Rate,
+    IsBounded,
 }
 
-// The numbers that the letters from a on stand for; a space stands for the first.
-const VALUES: [u64; 32] = [
-    0,
-    0,
-    1,
-    5,
-    10,
-    20,
-    30,
-    40,
-    134,
-    200,
-    1000,
-    1200,
-    1499,
-    1500,
-    1999,
-    2000,
-    8000,
-    8001,
-    1099511627776,
-    1099511627777,
-    9007199254740992,
-    18446744073709551615,
-    135,
-    136,
-    4096,
-    0,
-    0,
-    0,
-    0,
-    0,
-    0,
-    0,
+#[derive(Clone, Copy)]
+pub enum Call {
+    Start,
+    Judge,
+    Cut,
+    Report,
+    WriteReport,
+    ReportRefusal,
+    Reading(Read),
+    // No call: the whole histogram is written.
+    Fill,
+    // A line of the trial's language, before or after a start.
+    Line {
+        line: &'static [u8],
+        is_started: bool,
+    },
+}
+
+// The part of the head that is made unfit, if any.
+#[derive(Clone, Copy, PartialEq)]
+pub enum Fault {
+    Fit,
+    RateZero,
+    RateAbove,
+    Clock,
+    ScanClock,
+    ScanBegan,
+    ScanRead,
+    TablesRemaining,
+    NextTable,
+    UnitRoomAbove,
+    NoUnitRoom,
+    CountedRoomAbove,
+    OneCountedRoom,
+    TrackedAbove,
+    CountedAbove,
+}
+
+// How much is lent: records, and bytes of the report's buffer.
+#[derive(Clone, Copy)]
+pub struct Lengths {
+    pub tags: usize,
+    pub units: usize,
+    pub uses: usize,
+    pub counted: usize,
+    pub out: usize,
+}
+
+// What is written of a step.
+#[derive(Clone, Copy)]
+pub enum Says {
+    Nothing,
+    FreshVerdict,
+    OfRate,
+    OfIdle,
+    Active,
+    Visits,
+    Refused,
+    Written,
+    Line,
+}
+
+// A call: the sender, the head's fault, what is lent, the amounts (a start's rates, else a cost) and the stamp.
+#[derive(Clone, Copy)]
+pub struct Step {
+    pub call: Call,
+    pub unit: Unit,
+    pub fault: Fault,
+    pub lent: Lengths,
+    pub amounts: [u64; DIMS],
+    pub stamp: u64,
+    pub says: Says,
+}
+
+impl Fault {
+    // The head with that part made unfit.
+    pub fn made(self, mut head: Shedder) -> Shedder {
+        match self {
+            Fault::Fit => {}
+            Fault::RateZero => head.flow.rate[0] = 0,
+            Fault::RateAbove => head.flow.rate[DIMS - 1] = RATE_MOST + 1,
+            Fault::Clock => head.flow.at_ms = STAMP_END,
+            Fault::ScanClock => head.scan.at_ms = STAMP_END,
+            Fault::ScanBegan => head.scan.began_ms = STAMP_END,
+            Fault::ScanRead => head.scan.read_ms = STAMP_END,
+            Fault::TablesRemaining => head.scan.remaining = 65,
+            Fault::NextTable => head.scan.next = 63,
+            Fault::UnitRoomAbove => head.unit_room = 131073,
+            Fault::NoUnitRoom => head.unit_room = 0,
+            Fault::CountedRoomAbove => head.counted_room = 4098,
+            Fault::OneCountedRoom => head.counted_room = 1,
+            Fault::TrackedAbove => head.tracked = UNITS + 1,
+            Fault::CountedAbove => head.counted = COUNTED,
+        }
+        head
+    }
+}
+
+const FAULTS: [Fault; 14] = [
+    Fault::RateZero,
+    Fault::RateAbove,
+    Fault::Clock,
+    Fault::ScanClock,
+    Fault::ScanBegan,
+    Fault::ScanRead,
+    Fault::TablesRemaining,
+    Fault::NextTable,
+    Fault::UnitRoomAbove,
+    Fault::NoUnitRoom,
+    Fault::CountedRoomAbove,
+    Fault::OneCountedRoom,
+    Fault::TrackedAbove,
+    Fault::CountedAbove,
 ];
 
-// 1 for the letter a and so on, 0 for a space.
-pub fn letter(row: usize, column: usize) -> u64 {
-    (code(row, column) % 32) as u64
-}
+const READS: [Read; 5] = [
+    Read::Visited,
+    Read::CutBatches,
+    Read::Level,
+    Read::Rate,
+    Read::IsBounded,
+];
 
-pub fn value(row: usize, column: usize) -> u64 {
-    VALUES[(code(row, column) % 32) as usize]
-}
+// Lines that question 8 refuses: the first two before any start; the fifth is empty, and the last is one byte longer than a
+// line may be.
+const LINES: [Call; 6] = [
+    Call::Line {
+        line: b"J no-address 1 1 2000",
+        is_started: false,
+    },
+    Call::Line {
+        line: b"P",
+        is_started: false,
+    },
+    Call::Line {
+        line: b"J no-address 1 1",
+        is_started: true,
+    },
+    Call::Line {
+        line: b"J no-address 01 1 2000",
+        is_started: true,
+    },
+    Call::Line {
+        line: b"",
+        is_started: true,
+    },
+    Call::Line {
+        line: &[b'P'; LINE_MOST + 1],
+        is_started: true,
+    },
+];
 
-// A digit, or a value, that is at most so much.
-pub fn digit(row: usize, column: usize, most: usize) -> usize
-    ensures { result ≤ most }
-{
-    let n = (code(row, column) % 16) as usize;
-    if n < most { n } else { most }
-}
+// A group's unit; the others are of the one with no address.
+const GROUP: Unit = Unit::Group(Group::V4(258));
 
-pub fn value_up_to(row: usize, column: usize, most: usize) -> usize
-    ensures { result ≤ most }
-{
-    let n = value(row, column) as usize;
-    if n < most { n } else { most }
-}
+impl Step {
+    // With no fault, all of the memory, and 200 bytes of the buffer.
+    fn new(call: Call, amounts: [u64; DIMS], stamp: u64) -> Step {
+        Step {
+            call,
+            unit: Unit::NoAddress,
+            fault: Fault::Fit,
+            lent: Lengths {
+                tags: 7,
+                units: 4,
+                uses: 4,
+                counted: 3,
+                out: 200,
+            },
+            amounts,
+            stamp,
+            says: Says::Nothing,
+        }
+    }
 
-// The steps, and the row of each: a whole scan is a judgement made 32 times.
-pub const STEPS: usize = 200;
+    fn start(rate: u64) -> Step {
+        Step::new(Call::Start, [rate; DIMS], 2000)
+    }
 
-pub fn row_of(step: usize) -> usize {
-    match step {
-        0..=13 => step,
-        14..=44 => 14,
-        45..=47 => step - 30,
-        48..=78 => 18,
-        79..=80 => step - 60,
-        81..=111 => 21,
-        112..=199 => step - 90,
-        _ => 0,
+    fn judge(cost: u64, stamp: u64) -> Step {
+        Step::new(Call::Judge, [cost; DIMS], stamp)
+    }
+
+    // Of amounts of 1, to be refused.
+    fn refused(call: Call) -> Step {
+        Step::new(call, [1; DIMS], 2000).says(Says::Refused)
+    }
+
+    fn says(mut self, says: Says) -> Step {
+        self.says = says;
+        self
+    }
+
+    fn of_group(mut self) -> Step {
+        self.unit = GROUP;
+        self
+    }
+
+    fn fault(mut self, fault: Fault) -> Step {
+        self.fault = fault;
+        self
+    }
+
+    fn lent(mut self, tags: usize, units: usize, uses: usize, counted: usize) -> Step {
+        self.lent = Lengths {
+            tags,
+            units,
+            uses,
+            counted,
+            out: self.lent.out,
+        };
+        self
+    }
+
+    fn buffer(mut self, out: usize) -> Step {
+        self.lent.out = out;
+        self
+    }
+
+    fn amounts(mut self, first: u64, second: u64) -> Step {
+        self.amounts = [first, second];
+        self
+    }
+
+    fn stamp(mut self, stamp: u64) -> Step {
+        self.stamp = stamp;
+        self
     }
 }
 
-pub fn amounts(row: usize) -> [u64; DIMS] {
-    [value(row, FIRST), value(row, SECOND)]
+// A whole scan is a judgement made 32 times: what is said is said of the last.
+fn scan(steps: &mut Vec<Step>, stamp: u64, says: Says) -> Result<(), AllocError> {
+    let judge = Step::judge(0, stamp);
+    steps.extend_from_slice(&[judge; 31])?;
+    steps.extend_from_slice(&[judge.says(says)])
 }
 
-pub fn unit(row: usize) -> Unit {
-    if letter(row, UNIT) == 0 {
-        return Unit::NoAddress;
-    }
-    Unit::Group(Group::V4(258))
+// The cases that are run: the fresh verdict, the rates, idle, age, scans.
+fn cases(steps: &mut Vec<Step>) -> Result<(), AllocError> {
+    let start = Step::start(10);
+    steps.extend_from_slice(&[
+        start,
+        Step::judge(20, 1000).says(Says::FreshVerdict),
+        Step::start(0).says(Says::OfRate),
+        Step::start(RATE_MOST + 1).says(Says::OfRate),
+        Step::start(1).says(Says::OfRate),
+        Step::start(RATE_MOST).says(Says::OfRate),
+        start,
+        Step::judge(0, 0),
+        Step::judge(30, 1999).says(Says::OfIdle),
+        start,
+        Step::judge(0, 0),
+        Step::judge(30, 2000).says(Says::OfIdle),
+        start,
+        Step::judge(0, 0).of_group(),
+    ])?;
+    scan(steps, 8000, Says::Active)?;
+    steps.extend_from_slice(&[start, Step::judge(0, 0).of_group()])?;
+    scan(steps, 8001, Says::Active)?;
+    steps.extend_from_slice(&[start])?;
+    scan(steps, 1000, Says::Visits)?;
+    steps.extend_from_slice(&[
+        Step::judge(0, 1499).says(Says::Visits),
+        Step::judge(0, 1500).says(Says::Visits),
+    ])
 }
 
-// A rate of 2^40 is the largest, a stamp of 2^53 - 1 the latest.
-const ABOVE: u64 = 1099511627777;
+// Two judgements, a cut and a histogram with no word 0, for the calls refused.
+fn ready(steps: &mut Vec<Step>) -> Result<(), AllocError> {
+    steps.extend_from_slice(&[
+        Step::start(10),
+        Step::judge(5, 1000),
+        Step::judge(30, 1200).of_group(),
+        Step::new(Call::Cut, [5; DIMS], 2000),
+        Step::new(Call::Fill, [1; DIMS], 2000),
+    ])
+}
 
-const TOO_LATE: u64 = 9007199254740992;
+// Too little or too uneven memory, for question 4.
+fn lent_unfit(steps: &mut Vec<Step>, call: Call) -> Result<(), AllocError> {
+    let step = Step::refused(call);
+    steps.extend_from_slice(&[
+        step.lent(6, 4, 4, 3),
+        step.lent(6, 3, 4, 3),
+        step.lent(7, 4, 3, 3),
+        step.lent(6, 4, 4, 2),
+    ])
+}
 
-// The head with the part that a row says made unfit.
-pub fn unfit(h: Shedder, row: usize) -> Shedder {
-    let mut f = h.flow;
-    let mut s = h.scan;
-    let mut r = h;
-    match letter(row, FAULT) {
-        1 => f.rate[0] = 0,
-        2 => f.rate[DIMS - 1] = ABOVE,
-        3 => f.at_ms = TOO_LATE,
-        4 => s.at_ms = TOO_LATE,
-        5 => s.began_ms = TOO_LATE,
-        6 => s.read_ms = TOO_LATE,
-        7 => s.remaining = 65,
-        8 => s.next = 63,
-        9 => r.unit_room = 131073,
-        10 => r.unit_room = 0,
-        11 => r.counted_room = 4098,
-        12 => r.counted_room = 1,
-        13 => r.tracked = UNITS + 1,
-        14 => r.counted = COUNTED,
-        _ => {}
+// Costs too high, for question 5.
+fn cost_unfit(steps: &mut Vec<Step>, call: Call) -> Result<(), AllocError> {
+    let step = Step::refused(call);
+    steps.extend_from_slice(&[
+        step.amounts(RATE_MOST + 1, 1),
+        step.amounts(1, RATE_MOST + 1),
+    ])
+}
+
+// Questions 1 and 2.
+fn starts_refused(steps: &mut Vec<Step>) -> Result<(), AllocError> {
+    let start = Step::refused(Call::Start);
+    steps.extend_from_slice(&[
+        start.amounts(0, 1),
+        start.amounts(1, 0),
+        start.amounts(RATE_MOST + 1, 1),
+        start.amounts(1, RATE_MOST + 1),
+        start.amounts(u64::MAX, 1),
+        start.lent(6, 4, 4, 3),
+        start.lent(6, 3, 4, 3),
+        start.lent(7, 4, 3, 3),
+        start.lent(3, 0, 0, 3),
+        start.lent(5, 4, 4, 1),
+        start.lent(0, 0, 0, 0).amounts(0, 0),
+    ])
+}
+
+// Questions 3 to 6. Where a step is unfit in more than one way, the first question gives the number.
+fn judgements_refused(steps: &mut Vec<Step>) -> Result<(), AllocError> {
+    let judge = Step::refused(Call::Judge);
+    for fault in FAULTS {
+        steps.extend_from_slice(&[judge.fault(fault)])?;
     }
-    r.flow = f;
-    r.scan = s;
-    r
+    lent_unfit(steps, Call::Judge)?;
+    cost_unfit(steps, Call::Judge)?;
+    let above = judge.amounts(RATE_MOST + 1, RATE_MOST + 1).stamp(STAMP_END);
+    steps.extend_from_slice(&[
+        judge.stamp(STAMP_END),
+        above.lent(6, 4, 4, 3).fault(Fault::RateZero),
+        above.lent(6, 4, 4, 3),
+        above,
+    ])
+}
+
+// Questions 3 to 5.
+fn cuts_refused(steps: &mut Vec<Step>) -> Result<(), AllocError> {
+    steps.extend_from_slice(&[Step::refused(Call::Cut).fault(Fault::RateZero)])?;
+    lent_unfit(steps, Call::Cut)?;
+    cost_unfit(steps, Call::Cut)
+}
+
+// Questions 3, 4 and 7, by each of the report's calls: the report has 135 bytes here.
+fn reports_refused(steps: &mut Vec<Step>) -> Result<(), AllocError> {
+    for call in [Call::Report, Call::WriteReport, Call::ReportRefusal] {
+        let step = Step::refused(call);
+        steps.extend_from_slice(&[step.fault(Fault::RateZero)])?;
+        lent_unfit(steps, call)?;
+        let short = step.buffer(134);
+        steps.extend_from_slice(&[short, short.lent(6, 4, 4, 3).fault(Fault::RateZero)])?;
+    }
+    Ok(())
+}
+
+// Question 3.
+fn readings_refused(steps: &mut Vec<Step>) -> Result<(), AllocError> {
+    for read in READS {
+        let step = Step::refused(Call::Reading(read));
+        steps.extend_from_slice(&[step.fault(Fault::RateZero)])?;
+    }
+    Ok(())
+}
+
+// The report into a buffer of just its bytes, of one more and of 4,096.
+fn reports_written(steps: &mut Vec<Step>) -> Result<(), AllocError> {
+    for call in [Call::Report, Call::WriteReport] {
+        let step = Step::refused(call).says(Says::Written);
+        steps.extend_from_slice(&[step.buffer(135), step.buffer(136), step.buffer(4096)])?;
+    }
+    Ok(())
+}
+
+fn lines_refused(steps: &mut Vec<Step>) -> Result<(), AllocError> {
+    for line in LINES {
+        steps.extend_from_slice(&[Step::refused(line).buffer(40).says(Says::Line)])?;
+    }
+    Ok(())
+}
+
+// All of them, in order.
+pub fn all_steps(alloc: Global) -> Result<Vec<Step>, AllocError> {
+    let mut steps = Vec::new(alloc);
+    cases(&mut steps)?;
+    ready(&mut steps)?;
+    starts_refused(&mut steps)?;
+    judgements_refused(&mut steps)?;
+    cuts_refused(&mut steps)?;
+    reports_refused(&mut steps)?;
+    readings_refused(&mut steps)?;
+    reports_written(&mut steps)?;
+    lines_refused(&mut steps)?;
+    Ok(steps)
 }

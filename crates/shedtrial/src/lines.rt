@@ -1,9 +1,9 @@
 // Standard input cut into lines, and the answers written to standard output.
-use flow::DIMS;
+use std::fmt;
 use std::io::Read;
-use trial::{COUNTED, TAGS, Trial, UNITS};
+use trial::Trial;
+use trial_memory::Memory;
 use trial_script::{FEED, LINE, front};
-use wants::{BUCKETS, Counts, Sums};
 
 // The bytes read at once, and those kept before they are written.
 const BLOCK: usize = 65536;
@@ -11,213 +11,118 @@ const BLOCK: usize = 65536;
 // From here on the page is written before the next answer: what is left of it holds any answer.
 const FULL: usize = 61336;
 
-// The trial, how many bytes of the line that is being read are kept, whether nothing more is read, and whether input or
-// output failed, so that nothing more is written either.
+// Why the program stops before its input ends.
 #[derive(Clone, Copy)]
-struct Served {
+enum Stop {
+    InputFails,
+    OutputFails,
+}
+
+impl fmt::Display for Stop {
+    fn fmt<W: fmt::Write>(&self, f: &mut fmt::Formatter<W>) -> fmt::Result {
+        f.write_str(match self {
+            Stop::InputFails => "shedtrial: standard input cannot be read",
+            Stop::OutputFails => "shedtrial: standard output cannot be written, answers are lost",
+        })
+    }
+}
+
+// The trial and its memory; the line that is being read, and how many bytes of it are kept; the answers not yet written.
+#[derive(Drop)]
+struct Session {
     trial: Trial,
+    memory: Memory,
+    line: [u8; LINE],
     len: usize,
-    is_over: bool,
-    is_broken: bool,
+    page: [u8; BLOCK],
 }
 
-// Says on standard error why the program stops.
-fn broken(rt: &impl Eprint, trial: Trial, why: &str) -> Served {
-    let _ = rt.eprintln(why);
-    Served {
-        trial,
-        len: 0,
-        is_over: true,
-        is_broken: true,
-    }
-}
-
-// Writes the answers that stand on the page, and empties it. Once input or output failed, answers are dropped.
-fn written(rt: &(impl Print + Eprint), s: Served, page: &[u8]) -> Served {
-    let mut t = s.trial;
-    let n = t.at;
-    t.at = 0;
-    if s.is_broken || rt.write_all(front(page, n)).is_ok() {
-        return Served {
-            trial: t,
-            len: s.len,
-            is_over: s.is_over,
-            is_broken: s.is_broken,
-        };
-    }
-    broken(
-        rt,
-        t,
-        "shedtrial: standard output cannot be written, answers are lost",
-    )
-}
-
-// Answers the line that is kept.
-fn ended(
-    rt: &(impl Print + Eprint),
-    s: Served,
-    tags: &mut [u16; TAGS],
-    units: &mut [[u64; 7]; UNITS],
-    uses: &mut [[f64; 2 * DIMS]; UNITS],
-    counts: &mut Counts,
-    sums: &mut Sums,
-    counted: &mut [[u64; 8]; COUNTED],
-    line: &[u8; LINE],
-    page: &mut [u8; BLOCK],
-) -> Served {
-    let t = s.trial;
-    let whole = front(line, s.len);
-    let a = trial::answer(t, tags, units, uses, counts, sums, counted, whole, page);
-    let answered = Served {
-        trial: a,
-        len: 0,
-        is_over: s.is_over,
-        is_broken: s.is_broken,
-    };
-    if a.at < FULL {
-        return answered;
-    }
-    written(rt, answered, page)
-}
-
-// Answers each line that ends in a block of the input, and keeps what stands behind the last.
-fn block(
-    rt: &(impl Print + Eprint),
-    served: Served,
-    tags: &mut [u16; TAGS],
-    units: &mut [[u64; 7]; UNITS],
-    uses: &mut [[f64; 2 * DIMS]; UNITS],
-    counts: &mut Counts,
-    sums: &mut Sums,
-    counted: &mut [[u64; 8]; COUNTED],
-    line: &mut [u8; LINE],
-    page: &mut [u8; BLOCK],
-    input: &[u8],
-) -> Served {
-    let mut s = served;
-    let mut i = 0;
-    while i < input.len() {
-        let x = input[i];
-        if x == FEED {
-            s = ended(rt, s, tags, units, uses, counts, sums, counted, line, page);
-        } else {
-            s.len = trial_script::keep(line, s.len, x);
+impl Session {
+    fn new() -> Session {
+        Session {
+            trial: trial::unstarted(),
+            memory: Memory::zeroed(),
+            line: [0; LINE],
+            len: 0,
+            page: [0; BLOCK],
         }
-        i += 1;
     }
-    s
-}
 
-// Reads once, and answers the lines that came: whoever waits for the answers has them before the next read.
-fn turn(
-    rt: &(impl Print + Eprint),
-    reader: &mut impl Read,
-    mut s: Served,
-    tags: &mut [u16; TAGS],
-    units: &mut [[u64; 7]; UNITS],
-    uses: &mut [[f64; 2 * DIMS]; UNITS],
-    counts: &mut Counts,
-    sums: &mut Sums,
-    counted: &mut [[u64; 8]; COUNTED],
-    line: &mut [u8; LINE],
-    page: &mut [u8; BLOCK],
-) -> Served {
-    let mut input = [0u8; BLOCK];
-    let Ok(n) = reader.read(&mut input) else {
-        let t = s.trial;
-        return broken(rt, t, "shedtrial: standard input cannot be read");
-    };
-    if n == 0 {
-        s.is_over = true;
-        return s;
+    // Writes the answers that stand on the page, and empties it.
+    fn write(&mut self, rt: &impl Print) -> Result<(), Stop> {
+        let n = self.trial.at;
+        self.trial.at = 0;
+        if rt.write_all(front(&self.page, n)).is_err() {
+            return Err(Stop::OutputFails);
+        }
+        Ok(())
     }
-    let answered = block(
-        rt,
-        s,
-        tags,
-        units,
-        uses,
-        counts,
-        sums,
-        counted,
-        line,
-        page,
-        &input[..n],
-    );
-    written(rt, answered, page)
-}
 
-// Answers a last line that has no line end.
-fn finish(
-    rt: &(impl Print + Eprint),
-    s: Served,
-    tags: &mut [u16; TAGS],
-    units: &mut [[u64; 7]; UNITS],
-    uses: &mut [[f64; 2 * DIMS]; UNITS],
-    counts: &mut Counts,
-    sums: &mut Sums,
-    counted: &mut [[u64; 8]; COUNTED],
-    line: &[u8; LINE],
-    page: &mut [u8; BLOCK],
-) {
-    if s.len == 0 {
-        return;
-    }
-    let e = ended(rt, s, tags, units, uses, counts, sums, counted, line, page);
-    written(rt, e, page);
-}
-
-// The whole input. Nothing says that an input ends, so the turns are counted down from a number that no run uses up.
-pub fn serve(rt: &(impl Print + Eprint), reader: &mut impl Read) {
-    let mut tags = [0u16; TAGS];
-    let unit = [0u64; 7];
-    let mut units = [unit; UNITS];
-    let used = [0.0; 2 * DIMS];
-    let mut uses = [used; UNITS];
-    let none = [0u32; BUCKETS];
-    let mut counts = [none; DIMS];
-    let nothing = [0.0; BUCKETS];
-    let mut sums = [nothing; DIMS];
-    let source = [0u64; 8];
-    let mut counted = [source; COUNTED];
-    let mut line = [0u8; LINE];
-    let mut page = [0u8; BLOCK];
-    let mut s = Served {
-        trial: trial::unstarted(),
-        len: 0,
-        is_over: false,
-        is_broken: false,
-    };
-    let mut turns = u64::MAX;
-    while turns > 0 {
-        s = turn(
-            rt,
-            reader,
-            s,
-            &mut tags,
-            &mut units,
-            &mut uses,
-            &mut counts,
-            &mut sums,
-            &mut counted,
-            &mut line,
-            &mut page,
+    // Answers the line that is kept.
+    fn answer(&mut self, rt: &impl Print) -> Result<(), Stop> {
+        let t = self.trial;
+        let whole = front(&self.line, self.len);
+        let m = &mut self.memory;
+        self.trial = trial::answer(
+            t,
+            &mut m.tags,
+            &mut m.units,
+            &mut m.uses,
+            &mut m.counts,
+            &mut m.sums,
+            &mut m.counted,
+            whole,
+            &mut self.page,
         );
-        if s.is_over {
+        self.len = 0;
+        if self.trial.at < FULL {
+            return Ok(());
+        }
+        self.write(rt)
+    }
+
+    // Answers each line that ends in a block of the input, and keeps what stands behind the last: whoever waits for the answers
+    // has them before the next read.
+    fn take(&mut self, rt: &impl Print, input: &[u8]) -> Result<(), Stop> {
+        for &byte in input {
+            if byte == FEED {
+                self.answer(rt)?;
+            } else {
+                self.len = trial_script::keep(&mut self.line, self.len, byte);
+            }
+        }
+        self.write(rt)
+    }
+
+    // Answers a last line that has no line end.
+    fn finish(&mut self, rt: &impl Print) -> Result<(), Stop> {
+        if self.len == 0 {
+            return Ok(());
+        }
+        self.answer(rt)?;
+        self.write(rt)
+    }
+}
+
+// Nothing says that an input ends, so the reads are counted up to a number that no run reaches.
+fn serve_all(rt: &impl Print, reader: &mut impl Read) -> Result<(), Stop> {
+    let mut session = Session::new();
+    let mut input = [0; BLOCK];
+    for _ in 0..u64::MAX {
+        let Ok(n) = reader.read(&mut input) else {
+            return Err(Stop::InputFails);
+        };
+        if n == 0 {
             break;
         }
-        turns -= 1;
+        session.take(rt, &input[..n])?;
     }
-    finish(
-        rt,
-        s,
-        &mut tags,
-        &mut units,
-        &mut uses,
-        &mut counts,
-        &mut sums,
-        &mut counted,
-        &line,
-        &mut page,
-    );
+    session.finish(rt)
+}
+
+// The whole input; says on standard error why the program stops before.
+pub fn serve(rt: &(impl Print + Eprint), reader: &mut impl Read) {
+    if let Err(stop) = serve_all(rt, reader) {
+        let _ = rt.eprintln(stop);
+    }
 }

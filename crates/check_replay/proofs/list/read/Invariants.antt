@@ -1,8 +1,0 @@
--- `list::read` is safe and ends. The measure is the number of turns that are left.
-use Rattle.check_replay.proofs.list.read.Given as goal
-
-abbrev pub invariant-loop-turns : goal.invariant-loop-turns
-invariant-loop-turns g l = Unit {0}
-
-abbrev pub decreases-loop-turns : goal.decreases-loop-turns
-decreases-loop-turns g l = l.turns

@@ -1,8 +1,0 @@
--- `check_wants::main` is safe and ends. Assumes nothing.
-use Rattle.check_wants.proofs.main.Given as goal
-
-abbrev pub invariant-loop-turns : goal.invariant-loop-turns
-invariant-loop-turns l = Unit {0}
-
-abbrev pub decreases-loop-turns : goal.decreases-loop-turns
-decreases-loop-turns l = l.turns
