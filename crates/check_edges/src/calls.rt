@@ -1,6 +1,6 @@
 // The call of a step, over the slices lent.
 use crate::lent::Lent;
-use check_steps::{Call, DONE, Step, Tried};
+use check_steps::{Answer, Call, Step, Tried};
 use flow::DIMS;
 use head::{Cause, Shedder};
 use std::io;
@@ -28,7 +28,7 @@ fn start(step: &Step, head: Shedder, lent: Lent<'_>) -> Tried {
         step.amounts,
         [0; DIMS],
     );
-    Tried::new(codes::answer_number(s.answer), s.head)
+    Tried::new(s.answer.map(|()| None), s.head)
 }
 
 fn judge(step: &Step, head: Shedder, lent: Lent<'_>) -> Tried {
@@ -53,7 +53,7 @@ fn judge(step: &Step, head: Shedder, lent: Lent<'_>) -> Tried {
         step.amounts,
         step.stamp,
     );
-    Tried::new(check_steps::judge_number(j.answer), j.head)
+    Tried::new(j.answer.map(Some), j.head)
 }
 
 fn cut(step: &Step, head: Shedder, lent: Lent<'_>) -> Tried {
@@ -74,24 +74,25 @@ fn cut(step: &Step, head: Shedder, lent: Lent<'_>) -> Tried {
         Cause::ReceiverCeiling,
         step.amounts,
     );
-    Tried::new(codes::answer_number(d.answer), d.head)
+    Tried::new(d.answer.map(|()| None), d.head)
 }
 
-fn refusal(head: Shedder, lent: &Lent<'_>) -> u64 {
-    codes::answer_number(report::report_refusal(
+fn refusal(head: Shedder, lent: &Lent<'_>) -> Answer {
+    report::report_refusal(
         head,
         lent.tags,
         lent.units,
         lent.uses,
         lent.counted,
         lent.out,
-    ))
+    )
+    .map(|()| None)
 }
 
-// The report as the front part of the buffer. Its number is told by the call beside it; a report that is refused has an
+// The report as the front part of the buffer. Its answer is that of the call beside it; a report that is refused has an
 // empty front part.
 fn report(rt: &impl Print, head: Shedder, lent: Lent<'_>) -> io::Result<Tried> {
-    let number = refusal(head, &lent);
+    let answer = refusal(head, &lent);
     let Lent {
         tags,
         units,
@@ -104,9 +105,9 @@ fn report(rt: &impl Print, head: Shedder, lent: Lent<'_>) -> io::Result<Tried> {
     rt.write_all(front)?;
     let at = front.len();
     if at == 0 {
-        return Ok(Tried::new(number, head));
+        return Ok(Tried::new(answer, head));
     }
-    Ok(written(DONE, head, at))
+    Ok(written(Ok(None), head, at))
 }
 
 // The report as the call under it writes it.
@@ -119,15 +120,15 @@ fn write_report(rt: &impl Print, head: Shedder, lent: Lent<'_>) -> io::Result<Tr
         out,
         ..
     } = lent;
-    let w = codes::read_written(report::write_report(head, tags, units, uses, counted, out));
-    let n = w.value as usize;
+    let bytes = report::write_report(head, tags, units, uses, counted, out);
+    let n = bytes.unwrap_or(0);
     rt.write_all(trial_script::front(out, n))?;
-    Ok(written(w.refusal, head, n))
+    Ok(written(bytes.map(|_| None), head, n))
 }
 
 // A call that took so many bytes of the buffer.
-fn written(number: u64, head: Shedder, at: usize) -> Tried {
-    let mut tried = Tried::new(number, head);
+fn written(answer: Answer, head: Shedder, at: usize) -> Tried {
+    let mut tried = Tried::new(answer, head);
     tried.at = at;
     tried
 }
@@ -156,7 +157,7 @@ fn line(
     };
     let a = trial::answer(t, tags, units, uses, counts, sums, counted, line, out);
     check_steps::line(rt, line, trial_script::front(out, a.at))?;
-    let mut tried = written(DONE, a.head, a.at);
+    let mut tried = written(Ok(None), a.head, a.at);
     tried.unchanged = a.is_started == is_started;
     Ok(tried)
 }
@@ -170,11 +171,11 @@ pub fn answered(rt: &impl Print, step: &Step, head: Shedder, lent: Lent<'_>) -> 
         Call::Report => report(rt, head, lent),
         Call::WriteReport => write_report(rt, head, lent),
         Call::ReportRefusal => Ok(Tried::new(refusal(head, &lent), head)),
-        Call::Reading(read) => Ok(Tried::new(check_steps::reading(read as u64, head), head)),
+        Call::Reading(read) => Ok(Tried::new(check_steps::reading(read, head), head)),
         Call::Fill => {
             *lent.counts = [[4; BUCKETS]; DIMS];
             *lent.sums = [[0.5; BUCKETS]; DIMS];
-            Ok(Tried::new(DONE, head))
+            Ok(Tried::new(Ok(None), head))
         }
         Call::Line {
             line: text,

@@ -1,7 +1,7 @@
 // The lines of the lists that the programs check_sender, check_wants and check_replay are given.
 #![tactic(auto)]
 
-ghost use Rattle.std.specs.Prelude.{◌≡◌, ◌≢◌, All, IfOk, IfSome, OnOk, MatchOption, ◌++◌, ◌∷◌, [], false};
+ghost use Rattle.std.specs.Prelude.{◌≡◌, IfOk, IfSome, OnOk, MatchOption, ◌++◌, ◌∷◌, [], false};
 ghost use Rattle.std.specs.Io.BufRead.{take_through, ends_with_byte, DropsThrough};
 
 use std::io::{self, BufRead};

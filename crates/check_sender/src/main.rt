@@ -42,7 +42,14 @@ struct Listed {
     hash: u64,
 }
 
+// A hexadecimal number in lower case.
 fn number(digits: &str) -> Option<u64> {
+    if !digits
+        .bytes()
+        .all(|x| matches!(x, b'0'..=b'9' | b'a'..=b'f'))
+    {
+        return None;
+    }
     u64::from_str_radix(digits, 16).ok()
 }
 

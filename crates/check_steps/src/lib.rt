@@ -10,13 +10,14 @@ mod steps;
 mod tells;
 
 use flow::DIMS;
-use head::Shedder;
+use head::{Refusal, Shedder};
 pub use proved::run;
-pub use readers::{judge_number, reading};
+pub use readers::reading;
 pub use same::{is_as_before, same_head};
 pub use steps::{Call, Read, Step, all_steps};
 use store::{SourceRow, UnitRow, UseRow};
 pub use tells::{line, tell};
+use verdict::Verdict;
 use wants::{BUCKETS, Counts, Sums};
 
 // Unit records, counted records, the tags of both, and the bytes of the report's buffer.
@@ -53,28 +54,23 @@ impl Memory {
     }
 }
 
-// What came of a call: the number that it was refused by, or one of those below; the head after it; how many bytes of the
-// buffer an answer took; and whether all else is as before.
+// What a call answers: the verdict of a judgement, nothing more of any other call, or why it was refused.
+pub type Answer = Result<Option<Verdict>, Refusal>;
+
+// What came of a call: its answer; the head after it; how many bytes of the buffer an answer took; and whether all else is
+// as before.
 #[derive(Clone, Copy)]
 pub struct Tried {
-    pub number: u64,
+    pub answer: Answer,
     pub head: Shedder,
     pub at: usize,
     pub unchanged: bool,
 }
 
-pub const DONE: u64 = 0;
-
-pub const ADMITTED: u64 = 10;
-
-pub const OVER_SHARE: u64 = 11;
-
-pub const RELAY_RATE: u64 = 12;
-
 impl Tried {
-    pub fn new(number: u64, head: Shedder) -> Tried {
+    pub fn new(answer: Answer, head: Shedder) -> Tried {
         Tried {
-            number,
+            answer,
             head,
             at: 0,
             unchanged: true,

@@ -1,14 +1,15 @@
 // Numbers and outcomes as they are written to standard output.
-use crate::{ADMITTED, DONE, OVER_SHARE, RELAY_RATE};
+use crate::Answer;
 use std::fmt;
+use verdict::Verdict;
 
 // A level, which may be infinite, or another double.
 #[derive(Clone, Copy)]
 pub struct Level(pub f64);
 
-// What came of a call, by its number.
+// What a call answers; a refusal by its number.
 #[derive(Clone, Copy)]
-pub struct Outcome(pub u64);
+pub struct Outcome(pub Answer);
 
 impl fmt::Display for Level {
     fn fmt<W: fmt::Write>(&self, f: &mut fmt::Formatter<W>) -> fmt::Result {
@@ -24,11 +25,11 @@ impl fmt::Display for Level {
 impl fmt::Display for Outcome {
     fn fmt<W: fmt::Write>(&self, f: &mut fmt::Formatter<W>) -> fmt::Result {
         match self.0 {
-            DONE => f.write_str("started"),
-            ADMITTED => f.write_str("ok"),
-            OVER_SHARE => f.write_str("over-share"),
-            RELAY_RATE => f.write_str("relay-rate"),
-            number => write!(f, "refused {number}"),
+            Ok(None) => f.write_str("started"),
+            Ok(Some(Verdict::Admitted)) => f.write_str("ok"),
+            Ok(Some(Verdict::OverShare)) => f.write_str("over-share"),
+            Ok(Some(Verdict::RelayRate)) => f.write_str("relay-rate"),
+            Err(refusal) => write!(f, "refused {}", u64::from(refusal)),
         }
     }
 }

@@ -7,10 +7,10 @@ use sender::{Group, Unit};
 use std::alloc::{AllocError, Global};
 use trial_script::LINE_MOST;
 
-// A reading of the head, by its number in `readers::reading`.
+// A reading of the head.
 #[derive(Clone, Copy)]
 pub enum Read {
-    Visited = 7,
+    Visited,
     CutBatches,
     Level,
     Rate,

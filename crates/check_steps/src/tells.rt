@@ -68,19 +68,19 @@ fn written(rt: &impl Print, step: &Step, at: usize, changed: &str) -> io::Result
 
 fn told(rt: &impl Print, step: &Step, t: &Tried) -> io::Result<()> {
     let stamp = step.stamp;
-    let number = Outcome(t.number);
+    let answer = Outcome(t.answer);
     match step.says {
         Says::Nothing => Ok(()),
         // Behind its want.
-        Says::FreshVerdict => println!(rt; ", {number}"),
-        Says::OfRate => outcome(rt, "rate", step.amounts[0], number),
-        Says::OfIdle => outcome(rt, "idle", stamp, number),
+        Says::FreshVerdict => println!(rt; ", {answer}"),
+        Says::OfRate => outcome(rt, "rate", step.amounts[0], answer),
+        Says::OfIdle => outcome(rt, "idle", stamp, answer),
         Says::Active => active(rt, stamp, t.head.tracked),
         Says::Visits => visits(rt, stamp, t.head.visits, t.head.scan),
         Says::Refused => refused(
             rt,
             step,
-            number,
+            answer,
             or_changed(t.unchanged, ", nothing changed"),
         ),
         Says::Written => written(

@@ -124,25 +124,12 @@ pub struct Starting {
 
 // ---- the questions
 
-fn both(a: bool, b: bool) -> bool
-    ensures { result ≡ a && b }
-{
-    a && b
-}
-
 // Questions 1 and 2 are asked at a start, and the same of a head in question 3.
 #[tactic(auto, unfolding(crate::specs::Questions::is_rate))]
 fn is_rate(r: u64) -> bool
     ensures { result ≡ asked.is_rate r }
 {
     1 <= r && r <= RATE_MOST
-}
-
-#[tactic(auto, unfolding(crate::specs::Questions::is_max))]
-fn is_max(r: u64) -> bool
-    ensures { result ≡ asked.is_max r }
-{
-    r == UNBOUNDED
 }
 
 #[tactic(auto, unfolding(crate::specs::Questions::all_rates))]

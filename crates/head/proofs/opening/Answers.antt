@@ -1,4 +1,4 @@
-use Rattle.std.proofs.Common.{◌≡◌, refl, ◌∷◌, []}
+use Rattle.std.proofs.Common.{◌≡◌, refl}
 use Rattle.std.specs.Float.{binary64}
 use Rattle.std.specs.Float.Ieee.{of_bits, div}
 use Rattle.ieee.specs.Doubles.{◌⊘◌, nothing, one}
