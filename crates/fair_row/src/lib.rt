@@ -19,7 +19,7 @@ use own::on_watched;
 use read::read_row;
 use rows::{cost_in, words_in};
 use sender::Unit;
-use store::{SourceRow, UnitRow, UseRow};
+use store::{Records, SourceRow, UnitRow, UseRow};
 use verdict::Verdict;
 use wants::{Counts, Sums};
 
@@ -77,7 +77,12 @@ fn judge_row(
     let unit = sender::unit_of(words_in(row));
     let cost = cost_in(row);
     let stamp = row[6];
-    let mine = on_watched(head, tags, units, watched, unit);
+    let records = Records {
+        tags: &mut *tags,
+        units: &mut *units,
+        uses: &mut *uses,
+    };
+    let mine = on_watched(head, &records, watched, unit);
     let judged = judge::judge(
         head, tags, units, uses, counts, sums, counted, unit, cost, stamp,
     );

@@ -238,6 +238,16 @@ pub fn judge(
     let mut records = Records { tags, units, uses };
     let i = store_search::find(&records, head.tracked, name);
     bounded(
-        head, &mut records, counts, sums, counted, unit, hash, name, i, cost, stamp,
+        head,
+        &mut records,
+        counts,
+        sums,
+        counted,
+        unit,
+        hash,
+        name,
+        i,
+        cost,
+        stamp,
     )
 }

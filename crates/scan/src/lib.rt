@@ -119,9 +119,7 @@ fn walk_to_stale(
         ≡ walking.walk (held records.now) table at_ms result (wants.hist counts.old sums.old) }
 {
     let is_stale = |i| store_retain::is_stale(records, i, table, at_ms);
-    walk(
-        records, counts, sums, 0, n, table, at_ms, is_stale,
-    )
+    walk(records, counts, sums, 0, n, table, at_ms, is_stale)
 }
 
 // The table's records from `from` on are walked, where those before it were.
@@ -144,16 +142,7 @@ fn walk_rest(
         → wants.hist counts.new sums.new
         ≡ walking.walk (held records.now) table at_ms n g }
 {
-    walk(
-        records,
-        counts,
-        sums,
-        from,
-        n,
-        table,
-        at_ms,
-        |_| false,
-    );
+    walk(records, counts, sums, from, n, table, at_ms, |_| false);
 }
 
 // One table more is visited, and so many records are left.
@@ -199,12 +188,7 @@ fn swept(
 }
 
 // The next table is visited.
-fn visit(
-    h: &mut Shedder,
-    records: &mut Records<'_>,
-    counts: &mut Counts,
-    sums: &mut Sums,
-)
+fn visit(h: &mut Shedder, records: &mut Records<'_>, counts: &mut Counts, sums: &mut Sums)
     requires tracked_in_bounds { h.old.tracked ≤ length records.old.tags.now }
     requires tracked_in_bounds_2 { h.old.tracked ≤ length records.old.units.now }
     requires tracked_in_bounds_3 { h.old.tracked ≤ length records.old.uses.now }
@@ -229,12 +213,7 @@ fn visit(
 }
 
 // A second visit, where a table remains.
-fn again(
-    h: &mut Shedder,
-    records: &mut Records<'_>,
-    counts: &mut Counts,
-    sums: &mut Sums,
-)
+fn again(h: &mut Shedder, records: &mut Records<'_>, counts: &mut Counts, sums: &mut Sums)
     requires tracked_in_bounds { h.old.tracked ≤ length records.old.tags.now }
     requires tracked_in_bounds_2 { h.old.tracked ≤ length records.old.units.now }
     requires tracked_in_bounds_3 { h.old.tracked ≤ length records.old.uses.now }

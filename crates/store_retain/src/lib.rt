@@ -53,13 +53,7 @@ fn freed(records: &mut Records<'_>, place: usize)
 }
 
 // The record at i: freed where it is stale, else moved to j, the end of those kept.
-fn retain_one(
-    records: &mut Records<'_>,
-    i: usize,
-    j: usize,
-    table: usize,
-    at_ms: u64,
-) -> usize
+fn retain_one(records: &mut Records<'_>, i: usize, j: usize, table: usize, at_ms: u64) -> usize
     requires i_in_bounds { i < length records.old.tags.now }
     requires i_in_bounds_2 { i < length records.old.units.now }
     requires i_in_bounds_3 { i < length records.old.uses.now }
@@ -82,13 +76,7 @@ fn retain_one(
 
 // Of n records those that are not stale stay, in their order; freed places become 0. Before `from` none is stale, so nothing
 // is written there; from there on a record that stays is copied once.
-pub fn retain(
-    records: &mut Records<'_>,
-    from: usize,
-    n: usize,
-    table: usize,
-    at_ms: u64,
-) -> usize
+pub fn retain(records: &mut Records<'_>, from: usize, n: usize, table: usize, at_ms: u64) -> usize
     requires from_le_n { from ≤ n }
     requires n_in_bounds { n ≤ length records.old.tags.now }
     requires n_in_bounds_2 { n ≤ length records.old.units.now }
