@@ -1,20 +1,5 @@
 use Rattle.judge.proofs.Passing.{judged_is, rule_is}
-use mathlib.Core.Path.{sym, ◌∙◌}
 use Rattle.judge.proofs.judged.Goals as goal
-
-pub entry-p-requires : goal.entry-p-requires
-entry-p-requires c = record {
-  room_in_bounds = c.requires.unit_room_in_bounds;
-  units_len = c.requires.units_len;
-  uses_len = c.requires.uses_len;
-  tracked_le_room = c.requires.tracked_bound;
-  name_value = c.requires.name_value;
-  i_value = c.requires.i_value;
-}
-
-pub put_back-overflow-requires : goal.put_back-overflow-requires
-put_back-overflow-requires c =
-    c.entry-p.ensures.slices.units_length ∙ c.requires.units_len ∙ sym c.requires.uses_len ∙ sym c.entry-p.ensures.slices.uses_length
 
 pub returns-clause-uses_after : goal.returns-clause-uses_after
 returns-clause-uses_after c =

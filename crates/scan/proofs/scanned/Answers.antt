@@ -1,15 +1,6 @@
 use Rattle.scan.proofs.Scanning.{scanned_on, scanned_off}
-use Rattle.head.proofs.Bounds.{held_on}
 use Rattle.std.proofs.Common.{sym, ◌∙◌}
 use Rattle.scan.proofs.scanned.Goals as goal
-
-pub again-requires : goal.again-requires
-again-requires c = record {
-  tracked_in_bounds = held_on c.visit.ensures.tracked_le_tracked c.is_running.ensures.tracked_value c.requires.tracked_in_bounds c.visit.ensures.slices.tags_length;
-  tracked_in_bounds_2 = held_on c.visit.ensures.tracked_le_tracked c.is_running.ensures.tracked_value c.requires.tracked_in_bounds_2 c.visit.ensures.slices.units_length;
-  tracked_in_bounds_3 = held_on c.visit.ensures.tracked_le_tracked c.is_running.ensures.tracked_value c.requires.tracked_in_bounds_3 c.visit.ensures.slices.uses_length;
-  next_bound = c.visit.ensures.next_bound_2;
-}
 
 pub returns-then-not-is_running-clause-sums_after : goal.returns-then-not-is_running-clause-sums_after
 returns-then-not-is_running-clause-sums_after c =
