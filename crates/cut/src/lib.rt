@@ -3,6 +3,7 @@
 
 ghost use Rattle.std.specs.Prelude.{◌≡◌, ◌<◌, ◌≤◌, ◌+◌, length};
 ghost use Rattle.sender.specs.Sender as sender;
+ghost use Rattle.store.specs.Held.{held, SameSlices};
 ghost use Rattle.store.specs.Store as store;
 ghost use Rattle.head.specs.Answers as answers;
 ghost use Rattle.head.specs.Questions as asked;
@@ -13,7 +14,7 @@ ghost use Rattle.cut.specs.Cutting as cutting;
 use flow::DIMS;
 use head::{Cause, Flow, Refusal, Shedder};
 use sender::{Name, Unit};
-use store::{SourceRow, UnitRow, UseRow};
+use store::{Records, SourceRow, UnitRow, UseRow};
 
 // What a cut answers, and the head after it.
 #[derive(Clone, Copy)]
@@ -53,29 +54,26 @@ fn flowed_back(f: Flow, cost: [f64; DIMS]) -> Flow
 // All of a batch is handed back.
 fn handed_back(
     head: Shedder,
-    tags: &mut [u16],
-    units: &mut [UnitRow],
-    uses: &mut [UseRow],
+    records: &mut Records<'_>,
     unit: Unit,
     name: Name,
     i: usize,
     cost: [f64; DIMS],
 ) -> Shedder
-    requires unit_room_in_bounds { head.unit_room ≤ length tags.old }
-    requires units_len { length units.old ≡ head.unit_room }
-    requires uses_len { length uses.old ≡ head.unit_room }
+    requires unit_room_in_bounds { head.unit_room ≤ length records.old.tags.now }
+    requires units_len { length records.old.units.now ≡ head.unit_room }
+    requires uses_len { length records.old.uses.now ≡ head.unit_room }
     requires tracked_bound { head.tracked ≤ head.unit_room }
     requires name_value { name ≡ sender.name_of unit }
-    requires i_value { i ≡ store.find tags.old units.old name head.tracked }
-    ensures uses_after { cutting.kept_by result (store.rows tags.new units.new uses.new)
-        ≡ cutting.handed_back (cutting.kept_by head (store.rows tags.old units.old uses.old)) unit cost }
+    requires i_value { i ≡ store.find records.old.tags.now records.old.units.now name head.tracked }
+    ensures uses_after { cutting.kept_by result (held records.new)
+        ≡ cutting.handed_back (cutting.kept_by head (held records.old)) unit cost }
     ensures counted_value { result.counted ≡ head.counted }
     ensures unit_room_value { result.unit_room ≡ head.unit_room }
+    ensures slices { SameSlices records.old records.new }
 {
     let p = store_entry::entry(
-        tags,
-        units,
-        uses,
+        records,
         head.tracked,
         head.unit_room,
         unit,
@@ -83,9 +81,9 @@ fn handed_back(
         i,
         head.flow.at_ms,
     );
-    let used = store_entry::used_at(units, uses, head.overflow, p.at);
+    let used = store_entry::used_at(records, head.overflow, p.at);
     let next = used.handed_back(cost);
-    let overflow = store_entry::put_back(units, uses, head.overflow, p.at, next);
+    let overflow = store_entry::put_back(records, head.overflow, p.at, next);
     let flow = flowed_back(head.flow, cost);
     Shedder {
         flow,
@@ -148,9 +146,10 @@ pub fn cut(
     }
     let name = sender::name_of(unit);
     if hands_back(head.flow.rate, cause) {
-        let i = store_search::find(tags, units, head.tracked, name);
-        let h = handed_back(head, tags, units, uses, unit, name, i, flow::numbers(cost));
-        return noted(h, tags, counted, name, cause, cost);
+        let mut records = Records { tags, units, uses };
+        let i = store_search::find(&records, head.tracked, name);
+        let h = handed_back(head, &mut records, unit, name, i, flow::numbers(cost));
+        return noted(h, records.tags, counted, name, cause, cost);
     }
     noted(head, tags, counted, name, cause, cost)
 }

@@ -16,7 +16,7 @@ use head::{Cause, Refusal, Shedder};
 use own::on_watched;
 use read::answer_reading;
 use sender::Unit;
-use store::{SourceRow, UnitRow, UseRow};
+use store::{Records, SourceRow, UnitRow, UseRow};
 use verdict::Verdict;
 use wants::{Counts, Sums};
 
@@ -124,7 +124,12 @@ fn judge_turn(
         (calls.Judge unit cost stamp) result
         (replay.held result.head tags.new units.new uses.new counts.new sums.new counted.new) }
 {
-    let mine = on_watched(head, tags, units, watched, unit);
+    let records = Records {
+        tags: &mut *tags,
+        units: &mut *units,
+        uses: &mut *uses,
+    };
+    let mine = on_watched(head, &records, watched, unit);
     let judged = judge::judge(
         head, tags, units, uses, counts, sums, counted, unit, cost, stamp,
     );

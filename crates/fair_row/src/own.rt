@@ -4,11 +4,11 @@ ghost use Rattle.fair_row.specs.Replay as replay;
 
 use head::Shedder;
 use sender::Unit;
-use store::UnitRow;
+use store::Records;
 
 // Whether a judgement of the unit uses the unit's own record: found, or added. False where the slices are shorter than the records in use: such a judgement is refused.
-fn uses_own(head: Shedder, tags: &[u16], units: &[UnitRow], unit: Unit) -> bool
-    ensures { result ≡ replay.own_used tags.now units.now head.tracked head.unit_room unit }
+fn uses_own(head: Shedder, records: &Records<'_>, unit: Unit) -> bool
+    ensures { result ≡ replay.own_used records.now.tags.now records.now.units.now head.tracked head.unit_room unit }
 {
     if sender::is_overflow(unit) {
         return false;
@@ -16,22 +16,22 @@ fn uses_own(head: Shedder, tags: &[u16], units: &[UnitRow], unit: Unit) -> bool
     if head.tracked < head.unit_room {
         return true;
     }
-    if tags.len() < head.tracked {
+    if records.tags.len() < head.tracked {
         return false;
     }
-    if units.len() < head.tracked {
+    if records.units.len() < head.tracked {
         return false;
     }
     let name = sender::name_of(unit);
-    let i = store_search::find(tags, units, head.tracked, name);
+    let i = store_search::find(records, head.tracked, name);
     i < head.tracked
 }
 
 // Whether a judgement of the unit uses the watched record: that of the unit `watched`, or overflow's where that is overflow.
-pub fn on_watched(head: Shedder, tags: &[u16], units: &[UnitRow], watched: Unit, unit: Unit) -> bool
-    ensures { result ≡ replay.on_watched tags.now units.now head.tracked head.unit_room watched unit }
+pub fn on_watched(head: Shedder, records: &Records<'_>, watched: Unit, unit: Unit) -> bool
+    ensures { result ≡ replay.on_watched records.now.tags.now records.now.units.now head.tracked head.unit_room watched unit }
 {
-    if uses_own(head, tags, units, unit) {
+    if uses_own(head, records, unit) {
         return sender::same_unit(watched, unit);
     }
     sender::is_overflow(watched)

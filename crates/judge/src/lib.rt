@@ -3,6 +3,7 @@
 
 ghost use Rattle.std.specs.Prelude.{◌≡◌, ◌≤◌, length};
 ghost use Rattle.sender.specs.Sender as sender;
+ghost use Rattle.store.specs.Held.{held, SameSlices};
 ghost use Rattle.store.specs.Store as store;
 ghost use Rattle.wants.specs.Wants as wants;
 ghost use Rattle.head.specs.Answers as answers;
@@ -13,7 +14,7 @@ ghost use Rattle.judge.specs.Judging as judging;
 use flow::{DIMS, Use};
 use head::{Flow, Refusal, Shedder};
 use sender::{Name, Unit};
-use store::{SourceRow, UnitRow, UseRow};
+use store::{Records, SourceRow, UnitRow, UseRow};
 use verdict::{Outcome, Rule, Ruled, Verdict};
 use wants::{Counts, Sums};
 
@@ -97,9 +98,7 @@ pub struct Passed {
 // A judgement on the record that is found, added or overflow's.
 fn judged(
     head: Shedder,
-    tags: &mut [u16],
-    units: &mut [UnitRow],
-    uses: &mut [UseRow],
+    records: &mut Records<'_>,
     unit: Unit,
     hash: u64,
     name: Name,
@@ -107,27 +106,28 @@ fn judged(
     cost: [f64; DIMS],
     clock: u64,
 ) -> Passed
-    requires unit_room_in_bounds { head.unit_room ≤ length tags.old }
-    requires units_len { length units.old ≡ head.unit_room }
-    requires uses_len { length uses.old ≡ head.unit_room }
+    requires unit_room_in_bounds { head.unit_room ≤ length records.old.tags.now }
+    requires units_len { length records.old.units.now ≡ head.unit_room }
+    requires uses_len { length records.old.uses.now ≡ head.unit_room }
     requires tracked_bound { head.tracked ≤ head.unit_room }
     requires name_value { name ≡ sender.name_of unit }
-    requires i_value { i ≡ store.find tags.old units.old name head.tracked }
+    requires i_value { i ≡ store.find records.old.tags.now records.old.units.now name head.tracked }
     requires hash_value { hash ≡ sender.hash_of unit }
-    ensures uses_after { judging.passed result (store.rows tags.new units.new uses.new)
-        ≡ judging.judged head (store.rows tags.old units.old uses.old) unit cost clock }
+    ensures uses_after { judging.passed result (held records.new)
+        ≡ judging.judged head (held records.old) unit cost clock }
     ensures tracked_bound_2 { result.head.tracked ≤ head.unit_room }
     ensures counted_value { result.head.counted ≡ head.counted }
     ensures unit_room_value { result.head.unit_room ≡ head.unit_room }
     ensures scan_value { result.head.scan ≡ head.scan }
-    ensures rule_value { result.rule ≡ judging.ruled head (store.rows tags.old units.old uses.old) unit cost clock }
+    ensures rule_value { result.rule ≡ judging.ruled head (held records.old) unit cost clock }
+    ensures slices { SameSlices records.old records.new }
 {
     let room = head.unit_room;
-    let p = store_entry::entry(tags, units, uses, head.tracked, room, unit, name, i, clock);
-    let used = store_entry::used_at(units, uses, head.overflow, p.at);
+    let p = store_entry::entry(records, head.tracked, room, unit, name, i, clock);
+    let used = store_entry::used_at(records, head.overflow, p.at);
     let rank = rank_at(hash, p.at, room);
     let r = ruled(head.flow, head.level, used, rank, cost, clock);
-    let overflow = store_entry::put_back(units, uses, head.overflow, p.at, r.outcome.used);
+    let overflow = store_entry::put_back(records, head.overflow, p.at, r.outcome.used);
     let flow = flowed(head.flow, r.outcome, cost, clock);
     Passed {
         verdict: r.outcome.verdict,
@@ -144,9 +144,7 @@ fn judged(
 // A judgement of a bounded relay, once the questions are answered yes: verdict, count, scan.
 fn bounded(
     head: Shedder,
-    tags: &mut [u16],
-    units: &mut [UnitRow],
-    uses: &mut [UseRow],
+    records: &mut Records<'_>,
     counts: &mut Counts,
     sums: &mut Sums,
     counted: &mut [SourceRow],
@@ -159,21 +157,20 @@ fn bounded(
 ) -> Judgement
     requires hash_value { hash ≡ sender.hash_of unit }
     requires name_value { name ≡ sender.name_of unit }
-    requires i_value { i ≡ store.find tags.old units.old name head.tracked }
-    requires ready { asked.Ready head (length tags.old) (length units.old) (length uses.old) (length counted.old) stamp }
+    requires i_value { i ≡ store.find records.old.tags.now records.old.units.now name head.tracked }
+    requires ready { asked.Ready head (length records.old.tags.now) (length records.old.units.now) (length records.old.uses.now) (length counted.old) stamp }
     ensures counted_after { judging.judgement result
-        (judging.memory (store.rows tags.new units.new uses.new) (wants.hist counts.new sums.new) counted.new)
+        (judging.memory (held records.new) (wants.hist counts.new sums.new) counted.new)
         ≡ judging.bounded head
-        (judging.memory (store.rows tags.old units.old uses.old) (wants.hist counts.old sums.old) counted.old) unit cost stamp }
+        (judging.memory (held records.old) (wants.hist counts.old sums.old) counted.old) unit cost stamp }
     ensures answer_value { answers.judge_number result.answer ≡ 0 }
-    ensures ruling_value { result.ruling ≡ judging.bounded_ruling head (store.rows tags.old units.old uses.old) unit cost stamp }
+    ensures ruling_value { result.ruling ≡ judging.bounded_ruling head (held records.old) unit cost stamp }
+    ensures slices { SameSlices records.old records.new }
 {
     let clock = flow::later(stamp, head.flow.at_ms);
     let p = judged(
         head,
-        tags,
-        units,
-        uses,
+        records,
         unit,
         hash,
         name,
@@ -181,8 +178,8 @@ fn bounded(
         flow::numbers(cost),
         clock,
     );
-    let t = cut_counts::count_verdict(p.head, tags, counted, name, p.verdict, cost);
-    let s = scan::scanned(t, tags, units, uses, counts, sums, clock);
+    let t = cut_counts::count_verdict(p.head, records.tags, counted, name, p.verdict, cost);
+    let s = scan::scanned(t, records, counts, sums, clock);
     Judgement {
         answer: Ok(p.verdict),
         ruling: Some(p.rule),
@@ -238,8 +235,19 @@ pub fn judge(
     }
     let hash = sender::hash_of(unit);
     let name = sender::name_by_hash(unit, hash);
-    let i = store_search::find(tags, units, head.tracked, name);
+    let mut records = Records { tags, units, uses };
+    let i = store_search::find(&records, head.tracked, name);
     bounded(
-        head, tags, units, uses, counts, sums, counted, unit, hash, name, i, cost, stamp,
+        head,
+        &mut records,
+        counts,
+        sums,
+        counted,
+        unit,
+        hash,
+        name,
+        i,
+        cost,
+        stamp,
     )
 }

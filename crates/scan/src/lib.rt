@@ -5,6 +5,7 @@ ghost use Rattle.flow.specs.Flow.{dims};
 ghost use Rattle.std.specs.Prelude.{◌≡◌, ℕ, ◌+◌, ◌<◌, ◌≤◌, true, false, nat_le, length};
 ghost use Rattle.sender.specs.Sender as sender;
 ghost use Rattle.head.specs.Questions as asked;
+ghost use Rattle.store.specs.Held.{held, SameSlices};
 ghost use Rattle.store.specs.Store as store;
 ghost use Rattle.store_retain.specs.Retain as retain;
 ghost use Rattle.wants.specs.Wants as wants;
@@ -14,7 +15,7 @@ ghost use Rattle.scan.specs.Scanning as scanning;
 use flow::{DIMS, Use};
 use head::Shedder;
 use sender::TABLES;
-use store::{UnitRow, UseRow};
+use store::Records;
 use wants::{Counts, Sums};
 
 // How often the level is found again: a scan begins every quarter of this.
@@ -48,31 +49,27 @@ fn walk_overflow(counts: &mut Counts, sums: &mut Sums, overflow: Use, table: usi
 
 // The record at i, which stands in the table. Its rates are made here: a call of `walk_use` would be handed the whole use in memory.
 fn walk_one(
-    tags: &[u16],
-    units: &[UnitRow],
-    uses: &[UseRow],
+    records: &Records<'_>,
     counts: &mut Counts,
     sums: &mut Sums,
     i: usize,
     table: usize,
     at_ms: u64,
 )
-    requires i_in_bounds { i < length units.now }
-    requires i_in_bounds_2 { i < length uses.now }
-    requires i_value { store.in_table tags.now table i ≡ true }
+    requires i_in_bounds { i < length records.now.units.now }
+    requires i_in_bounds_2 { i < length records.now.uses.now }
+    requires i_value { store.in_table records.now.tags.now table i ≡ true }
     ensures { (wants.hist counts.new sums.new)
-        ≡ walking.walk_one (store.rows tags.now units.now uses.now) table at_ms i (wants.hist counts.old sums.old) }
+        ≡ walking.walk_one (held records.now) table at_ms i (wants.hist counts.old sums.old) }
 {
-    let used = store::use_at(units, uses, i);
+    let used = records.use_at(i);
     add_all(counts, sums, used.rates(at_ms));
 }
 
 // The table's records from `from` on are walked up to the first at which the walk stops: where it stands, else n. Those before
 // `from` were walked.
 fn walk<F: Fn(usize) -> bool>(
-    tags: &[u16],
-    units: &[UnitRow],
-    uses: &[UseRow],
+    records: &Records<'_>,
     counts: &mut Counts,
     sums: &mut Sums,
     from: usize,
@@ -82,23 +79,23 @@ fn walk<F: Fn(usize) -> bool>(
     stops: F,
 ) -> usize
     requires from_le_n { from ≤ n }
-    requires n_in_bounds { n ≤ length tags.now }
-    requires n_in_bounds_2 { n ≤ length units.now }
-    requires n_in_bounds_3 { n ≤ length uses.now }
+    requires n_in_bounds { n ≤ length records.now.tags.now }
+    requires n_in_bounds_2 { n ≤ length records.now.units.now }
+    requires n_in_bounds_3 { n ≤ length records.now.uses.now }
     requires callable { (i : ℕ) → i < n → F.pre stops i }
     ensures upper_bound { result ≤ n }
-    ensures passed { (k : ℕ) → from ≤ k → k < result → store.in_table tags.now table k ≡ true → F.post stops k false }
+    ensures passed { (k : ℕ) → from ≤ k → k < result → store.in_table records.now.tags.now table k ≡ true → F.post stops k false }
     ensures stopped { result < n → F.post stops result true }
     ensures sums_after { (g : wants.Hist)
         → wants.hist counts.old sums.old
-        ≡ walking.walk (store.rows tags.now units.now uses.now) table at_ms from g
+        ≡ walking.walk (held records.now) table at_ms from g
         → wants.hist counts.new sums.new
-        ≡ walking.walk (store.rows tags.now units.now uses.now) table at_ms result g }
+        ≡ walking.walk (held records.now) table at_ms result g }
 {
-    let mut i = store_search::next_in(tags, from, n, table);
+    let mut i = store_search::next_in(records.tags, from, n, table);
     while i < n && !stops(i) {
-        walk_one(tags, units, uses, counts, sums, i, table, at_ms);
-        i = store_search::next_in(tags, i + 1, n, table);
+        walk_one(records, counts, sums, i, table, at_ms);
+        i = store_search::next_in(records.tags, i + 1, n, table);
     }
     i
 }
@@ -106,34 +103,28 @@ fn walk<F: Fn(usize) -> bool>(
 // The table's records are walked up to the first that is stale: where it stands, else n. A visit that drops none reads the
 // tags once.
 fn walk_to_stale(
-    tags: &[u16],
-    units: &[UnitRow],
-    uses: &[UseRow],
+    records: &Records<'_>,
     counts: &mut Counts,
     sums: &mut Sums,
     n: usize,
     table: usize,
     at_ms: u64,
 ) -> usize
-    requires n_in_bounds { n ≤ length tags.now }
-    requires n_in_bounds_2 { n ≤ length units.now }
-    requires n_in_bounds_3 { n ≤ length uses.now }
+    requires n_in_bounds { n ≤ length records.now.tags.now }
+    requires n_in_bounds_2 { n ≤ length records.now.units.now }
+    requires n_in_bounds_3 { n ≤ length records.now.uses.now }
     ensures upper_bound { result ≤ n }
-    ensures none { store.None (retain.is_stale tags.now units.now table at_ms) 0 result }
+    ensures none { store.None (retain.is_stale records.now.tags.now records.now.units.now table at_ms) 0 result }
     ensures sums_after { (wants.hist counts.new sums.new)
-        ≡ walking.walk (store.rows tags.now units.now uses.now) table at_ms result (wants.hist counts.old sums.old) }
+        ≡ walking.walk (held records.now) table at_ms result (wants.hist counts.old sums.old) }
 {
-    let is_stale = |i| store_retain::is_stale(tags, units, i, table, at_ms);
-    walk(
-        tags, units, uses, counts, sums, 0, n, table, at_ms, is_stale,
-    )
+    let is_stale = |i| store_retain::is_stale(records, i, table, at_ms);
+    walk(records, counts, sums, 0, n, table, at_ms, is_stale)
 }
 
 // The table's records from `from` on are walked, where those before it were.
 fn walk_rest(
-    tags: &[u16],
-    units: &[UnitRow],
-    uses: &[UseRow],
+    records: &Records<'_>,
     counts: &mut Counts,
     sums: &mut Sums,
     from: usize,
@@ -142,27 +133,16 @@ fn walk_rest(
     at_ms: u64,
 )
     requires from_le_n { from ≤ n }
-    requires n_in_bounds { n ≤ length tags.now }
-    requires n_in_bounds_2 { n ≤ length units.now }
-    requires n_in_bounds_3 { n ≤ length uses.now }
+    requires n_in_bounds { n ≤ length records.now.tags.now }
+    requires n_in_bounds_2 { n ≤ length records.now.units.now }
+    requires n_in_bounds_3 { n ≤ length records.now.uses.now }
     ensures { (g : wants.Hist)
         → wants.hist counts.old sums.old
-        ≡ walking.walk (store.rows tags.now units.now uses.now) table at_ms from g
+        ≡ walking.walk (held records.now) table at_ms from g
         → wants.hist counts.new sums.new
-        ≡ walking.walk (store.rows tags.now units.now uses.now) table at_ms n g }
+        ≡ walking.walk (held records.now) table at_ms n g }
 {
-    walk(
-        tags,
-        units,
-        uses,
-        counts,
-        sums,
-        from,
-        n,
-        table,
-        at_ms,
-        |_| false,
-    );
+    walk(records, counts, sums, from, n, table, at_ms, |_| false);
 }
 
 // One table more is visited, and so many records are left.
@@ -181,9 +161,7 @@ fn visited(h: &mut Shedder, n: usize)
 // A table's stale records are dropped, and the wants of the others are added, overflow's first at table 0: how many records
 // are left.
 fn swept(
-    tags: &mut [u16],
-    units: &mut [UnitRow],
-    uses: &mut [UseRow],
+    records: &mut Records<'_>,
     counts: &mut Counts,
     sums: &mut Sums,
     overflow: Use,
@@ -191,46 +169,39 @@ fn swept(
     table: usize,
     at_ms: u64,
 ) -> usize
-    requires tracked_in_bounds { tracked ≤ length tags.old }
-    requires tracked_in_bounds_2 { tracked ≤ length units.old }
-    requires tracked_in_bounds_3 { tracked ≤ length uses.old }
-    ensures uses_after { retain.kept result (store.rows tags.new units.new uses.new)
-        ≡ retain.retained (store.rows tags.old units.old uses.old) table at_ms tracked }
+    requires tracked_in_bounds { tracked ≤ length records.old.tags.now }
+    requires tracked_in_bounds_2 { tracked ≤ length records.old.units.now }
+    requires tracked_in_bounds_3 { tracked ≤ length records.old.uses.now }
+    ensures uses_after { retain.kept result (held records.new)
+        ≡ retain.retained (held records.old) table at_ms tracked }
     ensures sums_after { (wants.hist counts.new sums.new)
-        ≡ walking.walk (store.rows tags.new units.new uses.new) table at_ms result
+        ≡ walking.walk (held records.new) table at_ms result
         (walking.walk_overflow overflow table at_ms (wants.hist counts.old sums.old)) }
     ensures upper_bound { result ≤ tracked }
+    ensures slices { SameSlices records.old records.new }
 {
     walk_overflow(counts, sums, overflow, table, at_ms);
-    let i = walk_to_stale(tags, units, uses, counts, sums, tracked, table, at_ms);
-    let n = store_retain::retain(tags, units, uses, i, tracked, table, at_ms);
-    walk_rest(tags, units, uses, counts, sums, i, n, table, at_ms);
+    let i = walk_to_stale(records, counts, sums, tracked, table, at_ms);
+    let n = store_retain::retain(records, i, tracked, table, at_ms);
+    walk_rest(records, counts, sums, i, n, table, at_ms);
     n
 }
 
 // The next table is visited.
-fn visit(
-    h: &mut Shedder,
-    tags: &mut [u16],
-    units: &mut [UnitRow],
-    uses: &mut [UseRow],
-    counts: &mut Counts,
-    sums: &mut Sums,
-)
-    requires tracked_in_bounds { h.old.tracked ≤ length tags.old }
-    requires tracked_in_bounds_2 { h.old.tracked ≤ length units.old }
-    requires tracked_in_bounds_3 { h.old.tracked ≤ length uses.old }
+fn visit(h: &mut Shedder, records: &mut Records<'_>, counts: &mut Counts, sums: &mut Sums)
+    requires tracked_in_bounds { h.old.tracked ≤ length records.old.tags.now }
+    requires tracked_in_bounds_2 { h.old.tracked ≤ length records.old.units.now }
+    requires tracked_in_bounds_3 { h.old.tracked ≤ length records.old.uses.now }
     requires le_remaining { 1 ≤ h.old.scan.remaining }
     requires next_bound { h.old.scan.remaining + h.old.scan.next ≤ sender.«TABLES» }
-    ensures sums_after { scanning.scanning h.new (store.rows tags.new units.new uses.new) (wants.hist counts.new sums.new)
-        ≡ scanning.visit (scanning.scanning h.old (store.rows tags.old units.old uses.old) (wants.hist counts.old sums.old)) }
+    ensures sums_after { scanning.scanning h.new (held records.new) (wants.hist counts.new sums.new)
+        ≡ scanning.visit (scanning.scanning h.old (held records.old) (wants.hist counts.old sums.old)) }
     ensures tracked_le_tracked { h.new.tracked ≤ h.old.tracked }
     ensures next_bound_2 { h.new.scan.remaining + h.new.scan.next ≤ sender.«TABLES» }
+    ensures slices { SameSlices records.old records.new }
 {
     let n = swept(
-        tags,
-        units,
-        uses,
+        records,
         counts,
         sums,
         h.overflow,
@@ -242,23 +213,17 @@ fn visit(
 }
 
 // A second visit, where a table remains.
-fn again(
-    h: &mut Shedder,
-    tags: &mut [u16],
-    units: &mut [UnitRow],
-    uses: &mut [UseRow],
-    counts: &mut Counts,
-    sums: &mut Sums,
-)
-    requires tracked_in_bounds { h.old.tracked ≤ length tags.old }
-    requires tracked_in_bounds_2 { h.old.tracked ≤ length units.old }
-    requires tracked_in_bounds_3 { h.old.tracked ≤ length uses.old }
+fn again(h: &mut Shedder, records: &mut Records<'_>, counts: &mut Counts, sums: &mut Sums)
+    requires tracked_in_bounds { h.old.tracked ≤ length records.old.tags.now }
+    requires tracked_in_bounds_2 { h.old.tracked ≤ length records.old.units.now }
+    requires tracked_in_bounds_3 { h.old.tracked ≤ length records.old.uses.now }
     requires next_bound { h.old.scan.remaining + h.old.scan.next ≤ sender.«TABLES» }
-    ensures { scanning.scanning h.new (store.rows tags.new units.new uses.new) (wants.hist counts.new sums.new)
-        ≡ scanning.again (scanning.scanning h.old (store.rows tags.old units.old uses.old) (wants.hist counts.old sums.old)) }
+    ensures sums_after { scanning.scanning h.new (held records.new) (wants.hist counts.new sums.new)
+        ≡ scanning.again (scanning.scanning h.old (held records.old) (wants.hist counts.old sums.old)) }
+    ensures slices { SameSlices records.old records.new }
 {
     if h.scan.remaining >= 1 {
-        visit(h, tags, units, uses, counts, sums);
+        visit(h, records, counts, sums);
     }
 }
 
@@ -306,25 +271,24 @@ fn is_running(h: &mut Shedder, counts: &mut Counts, sums: &mut Sums, clock: u64)
 // What a judgement does of a scan: it visits two tables. The head is lent to each step, so that none copies it.
 pub fn scanned(
     mut h: Shedder,
-    tags: &mut [u16],
-    units: &mut [UnitRow],
-    uses: &mut [UseRow],
+    records: &mut Records<'_>,
     counts: &mut Counts,
     sums: &mut Sums,
     clock: u64,
 ) -> Shedder
-    requires tracked_in_bounds { h.tracked ≤ length tags.old }
-    requires tracked_in_bounds_2 { h.tracked ≤ length units.old }
-    requires tracked_in_bounds_3 { h.tracked ≤ length uses.old }
+    requires tracked_in_bounds { h.tracked ≤ length records.old.tags.now }
+    requires tracked_in_bounds_2 { h.tracked ≤ length records.old.units.now }
+    requires tracked_in_bounds_3 { h.tracked ≤ length records.old.uses.now }
     requires began_ms_bound { h.scan.began_ms < asked.STAMP_END }
     requires next_bound { h.scan.remaining + h.scan.next ≤ sender.«TABLES» }
-    ensures { scanning.scanning result (store.rows tags.new units.new uses.new) (wants.hist counts.new sums.new)
-        ≡ scanning.scanned (scanning.scanning h (store.rows tags.old units.old uses.old) (wants.hist counts.old sums.old)) clock }
+    ensures sums_after { scanning.scanning result (held records.new) (wants.hist counts.new sums.new)
+        ≡ scanning.scanned (scanning.scanning h (held records.old) (wants.hist counts.old sums.old)) clock }
+    ensures slices { SameSlices records.old records.new }
 {
     if !is_running(&mut h, counts, sums, clock) {
         return h;
     }
-    visit(&mut h, tags, units, uses, counts, sums);
-    again(&mut h, tags, units, uses, counts, sums);
+    visit(&mut h, records, counts, sums);
+    again(&mut h, records, counts, sums);
     ended(h, counts, sums)
 }

@@ -2,6 +2,7 @@
 #![tactic(auto)]
 
 ghost use Rattle.std.specs.Prelude.{◌≡◌, ◌<◌, ◌≤◌, length};
+ghost use Rattle.store.specs.Held.{held, SameSlices};
 ghost use Rattle.store.specs.Store as store;
 
 mod floats;
@@ -41,70 +42,77 @@ pub fn words_at<const N: usize>(rows: &[[u64; N]], i: usize) -> Words
     }
 }
 
-// Its use.
-pub fn use_at(units: &[UnitRow], uses: &[UseRow], i: usize) -> Use
-    requires i_in_bounds { i < length units.now }
-    requires i_in_bounds_2 { i < length uses.now }
-    ensures { result ≡ store.use_at units.now uses.now i }
-{
-    Use {
-        attempted: part(uses[i], 0),
-        credit: part(uses[i], DIMS),
-        at_ms: units[i][5],
-        fresh: units[i][6],
+// The unit records in lent memory: of each a tag, a row of words and a row of floats.
+#[derive(Drop)]
+pub struct Records<'a> {
+    pub tags: &'a mut [u16],
+    pub units: &'a mut [UnitRow],
+    pub uses: &'a mut [UseRow],
+}
+
+impl Records<'_> {
+    // The use of the record at i.
+    #[tactic(auto, unfolding(crate::specs::Store::use_at))]
+    pub fn use_at(&self, i: usize) -> Use
+        requires i_in_bounds { i < length self.now.units.now }
+        requires i_in_bounds_2 { i < length self.now.uses.now }
+        ensures { result ≡ store.use_at self.now.units.now self.now.uses.now i }
+    {
+        Use {
+            attempted: part(self.uses[i], 0),
+            credit: part(self.uses[i], DIMS),
+            at_ms: self.units[i][5],
+            fresh: self.units[i][6],
+        }
     }
-}
 
-#[tactic(auto, unfolding(crate::specs::Store::stamp_at))]
-pub fn stamp_at(units: &[UnitRow], i: usize) -> u64
-    requires { i < length units.now }
-    ensures { result ≡ store.stamp_at units.now i }
-{
-    units[i][5]
-}
+    #[tactic(auto, unfolding(crate::specs::Store::stamp_at))]
+    pub fn stamp_at(&self, i: usize) -> u64
+        requires { i < length self.now.units.now }
+        ensures { result ≡ store.stamp_at self.now.units.now i }
+    {
+        self.units[i][5]
+    }
 
-// The table of the record's tag.
-#[tactic(auto, unfolding(crate::specs::Store::table_at))]
-pub fn table_at(tags: &[u16], i: usize) -> usize
-    requires { i < length tags.now }
-    ensures { result ≡ store.table_at tags.now i }
-{
-    sender::table_of_tag(tags[i])
-}
+    // The table of the record's tag.
+    #[tactic(auto, unfolding(crate::specs::Store::table_at))]
+    pub fn table_at(&self, i: usize) -> usize
+        requires { i < length self.now.tags.now }
+        ensures { result ≡ store.table_at self.now.tags.now i }
+    {
+        sender::table_of_tag(self.tags[i])
+    }
 
-// The use put into the record; its unit stays.
-#[tactic(auto, unfolding(crate::specs::Store::units_put, crate::specs::Store::uses_put))]
-pub fn put_use(units: &mut [UnitRow], uses: &mut [UseRow], i: usize, used: Use)
-    requires i_in_bounds { i < length units.old }
-    requires i_in_bounds_2 { i < length uses.old }
-    ensures units_after { units.new ≡ store.units_put units.old i used }
-    ensures uses_after { uses.new ≡ store.uses_put uses.old i used }
-{
-    let row = &mut units[i];
-    row[5] = used.at_ms;
-    row[6] = used.fresh;
-    uses[i] = joined(used.attempted, used.credit);
-}
+    // The use put into the record; its unit stays.
+    #[tactic(auto, unfolding(crate::specs::Store::units_put, crate::specs::Store::uses_put))]
+    pub fn put_use(&mut self, i: usize, used: Use)
+        requires i_in_bounds { i < length self.old.units.now }
+        requires i_in_bounds_2 { i < length self.old.uses.now }
+        ensures tags_after { self.new.tags.now ≡ self.old.tags.now }
+        ensures units_after { self.new.units.now ≡ store.units_put self.old.units.now i used }
+        ensures uses_after { self.new.uses.now ≡ store.uses_put self.old.uses.now i used }
+        ensures slices { SameSlices self.old self.new }
+    {
+        let row = &mut self.units[i];
+        row[5] = used.at_ms;
+        row[6] = used.fresh;
+        self.uses[i] = joined(used.attempted, used.credit);
+    }
 
-// A record of the unit written at i.
-#[tactic(auto, unfolding(crate::specs::Store::added))]
-pub fn add(
-    tags: &mut [u16],
-    units: &mut [UnitRow],
-    uses: &mut [UseRow],
-    i: usize,
-    name: Name,
-    used: Use,
-)
-    requires i_in_bounds { i < length tags.old }
-    requires i_in_bounds_2 { i < length units.old }
-    requires i_in_bounds_3 { i < length uses.old }
-    ensures { store.rows tags.new units.new uses.new ≡ store.added (store.rows tags.old units.old uses.old) i name used }
-{
-    let Words { kind, a, b, c, d } = name.words;
-    tags[i] = name.tag;
-    units[i] = [kind, a, b, c, d, used.at_ms, used.fresh];
-    uses[i] = joined(used.attempted, used.credit);
+    // A record of the unit written at i.
+    #[tactic(auto, unfolding(crate::specs::Store::added))]
+    pub fn add(&mut self, i: usize, name: Name, used: Use)
+        requires i_in_bounds { i < length self.old.tags.now }
+        requires i_in_bounds_2 { i < length self.old.units.now }
+        requires i_in_bounds_3 { i < length self.old.uses.now }
+        ensures rows_after { held self.new ≡ store.added (held self.old) i name used }
+        ensures slices { SameSlices self.old self.new }
+    {
+        let Words { kind, a, b, c, d } = name.words;
+        self.tags[i] = name.tag;
+        self.units[i] = [kind, a, b, c, d, used.at_ms, used.fresh];
+        self.uses[i] = joined(used.attempted, used.credit);
+    }
 }
 
 // The same unit: raw words are compared, so that a row of any bits is only itself.

@@ -3,12 +3,13 @@
 
 ghost use Rattle.std.specs.Prelude.{◌≡◌, ◌≤◌, length};
 ghost use Rattle.sender.specs.Sender as sender;
+ghost use Rattle.store.specs.Held.{held, SameSlices};
 ghost use Rattle.store.specs.Store as store;
 ghost use Rattle.store_entry.specs.Entering as entering;
 
 use flow::Use;
 use sender::{Name, Unit};
-use store::{UnitRow, UseRow};
+use store::Records;
 
 // Where a unit's record is, room for overflow's; and how many there are then.
 #[derive(Clone, Copy)]
@@ -19,9 +20,7 @@ pub struct Place {
 
 // The unit's record; a new one, stamped with the clock, where there is room; else overflow's. The search was made, and gave i.
 pub fn entry(
-    tags: &mut [u16],
-    units: &mut [UnitRow],
-    uses: &mut [UseRow],
+    records: &mut Records<'_>,
     tracked: usize,
     room: usize,
     unit: Unit,
@@ -29,15 +28,16 @@ pub fn entry(
     i: usize,
     clock: u64,
 ) -> Place
-    requires room_in_bounds { room ≤ length tags.old }
-    requires units_len { length units.old ≡ room }
-    requires uses_len { length uses.old ≡ room }
+    requires room_in_bounds { room ≤ length records.old.tags.now }
+    requires units_len { length records.old.units.now ≡ room }
+    requires uses_len { length records.old.uses.now ≡ room }
     requires tracked_le_room { tracked ≤ room }
     requires name_value { name ≡ sender.name_of unit }
-    requires i_value { i ≡ store.find tags.old units.old name tracked }
-    ensures uses_after { entering.entered result (store.rows tags.new units.new uses.new)
-        ≡ entering.entry (store.rows tags.old units.old uses.old) tracked room unit clock }
+    requires i_value { i ≡ store.find records.old.tags.now records.old.units.now name tracked }
+    ensures uses_after { entering.entered result (held records.new)
+        ≡ entering.entry (held records.old) tracked room unit clock }
     ensures tracked_le_room_2 { result.tracked ≤ room }
+    ensures slices { SameSlices records.old records.new }
 {
     if sender::is_overflow(unit) {
         return Place { at: room, tracked };
@@ -46,7 +46,7 @@ pub fn entry(
         return Place { at: i, tracked };
     }
     if tracked < room {
-        store::add(tags, units, uses, tracked, name, Use::new(clock));
+        records.add(tracked, name, Use::new(clock));
         return Place {
             at: tracked,
             tracked: tracked + 1,
@@ -56,30 +56,27 @@ pub fn entry(
 }
 
 // The use at a place: a record's, or overflow's.
-pub fn used_at(units: &[UnitRow], uses: &[UseRow], overflow: Use, at: usize) -> Use
-    requires { length units.now ≡ length uses.now }
-    ensures { result ≡ entering.used_at units.now uses.now overflow at }
+pub fn used_at(records: &Records<'_>, overflow: Use, at: usize) -> Use
+    requires { length records.now.units.now ≡ length records.now.uses.now }
+    ensures { result ≡ entering.used_at records.now.units.now records.now.uses.now overflow at }
 {
-    if at < units.len() {
-        store::use_at(units, uses, at)
+    if at < records.units.len() {
+        records.use_at(at)
     } else {
         overflow
     }
 }
 
 // The record is put back, and overflow's is then the answer.
-pub fn put_back(
-    units: &mut [UnitRow],
-    uses: &mut [UseRow],
-    overflow: Use,
-    at: usize,
-    used: Use,
-) -> Use
-    requires { length units.old ≡ length uses.old }
-    ensures { entering.back result units.new uses.new ≡ entering.put_back units.old uses.old overflow at used }
+pub fn put_back(records: &mut Records<'_>, overflow: Use, at: usize, used: Use) -> Use
+    requires { length records.old.units.now ≡ length records.old.uses.now }
+    ensures back { entering.back result records.new.units.now records.new.uses.now
+        ≡ entering.put_back records.old.units.now records.old.uses.now overflow at used }
+    ensures tags_after { records.new.tags.now ≡ records.old.tags.now }
+    ensures slices { SameSlices records.old records.new }
 {
-    if at < units.len() {
-        store::put_use(units, uses, at, used);
+    if at < records.units.len() {
+        records.put_use(at, used);
         overflow
     } else {
         used

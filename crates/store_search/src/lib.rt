@@ -7,7 +7,7 @@ ghost use Rattle.store.specs.Store as store;
 ghost use Rattle.store_search.specs.Passing as passing;
 
 use sender::{Name, TABLES, Words};
-use store::UnitRow;
+use store::{Records, UnitRow};
 
 // How many records are tried at once: a tag is sought among many records, those of a table stand close to each other.
 const FAR: usize = 32;
@@ -113,12 +113,14 @@ fn has_words(units: &[UnitRow], i: usize, words: Words) -> bool
 }
 
 // The first of n records that is the unit's, else n.
-pub fn find(tags: &[u16], units: &[UnitRow], n: usize, name: Name) -> usize
-    requires n_in_bounds { n ≤ length tags.now }
-    requires n_in_bounds_2 { n ≤ length units.now }
-    ensures { result ≡ store.find tags.now units.now name n }
+pub fn find(records: &Records<'_>, n: usize, name: Name) -> usize
+    requires n_in_bounds { n ≤ length records.now.tags.now }
+    requires n_in_bounds_2 { n ≤ length records.now.units.now }
+    ensures { result ≡ store.find records.now.tags.now records.now.units.now name n }
 {
-    find_tagged(tags, n, name.tag, |i| has_words(units, i, name.words))
+    find_tagged(records.tags, n, name.tag, |i| {
+        has_words(records.units, i, name.words)
+    })
 }
 
 // Whether a tag is of the table, compared in 16 bits.

@@ -1,5 +1,4 @@
-use mathlib.Core.Path.{refl, sym, ap, ◌∙◌}
-use Rattle.std.proofs.Common.{Err}
+use Rattle.std.proofs.Common.{◌≡◌, refl, sym, ap, ◌∙◌, Err, rules}
 use Rattle.store.specs.Store.{rows}
 use Rattle.head.specs.declared.Refusal.{Refusal}
 use Rattle.head.proofs.Numbers.{refused_is, answered_none}
@@ -34,14 +33,18 @@ handed_back-h-requires c = let w = cut_ready c.args.head _ _ _ _ c.args.cost (an
 
 pub noted-requires : goal.noted-requires
 noted-requires c = let w = cut_ready c.args.head _ _ _ _ c.args.cost (answered_none c.cut_asked.result _ _ c.in_default.is c.cut_asked.ensures) in record {
-  counted_in_bounds = sum_within c.handed_back-h.ensures.unit_room_value c.handed_back-h.ensures.counted_value w.counted_held w.tags_room c.handed_back-h.auto.tags;
+  counted_in_bounds = sum_within c.handed_back-h.ensures.unit_room_value c.handed_back-h.ensures.counted_value w.counted_held w.tags_room c.handed_back-h.ensures.slices.tags_length;
   counted_in_bounds_2 = lt_by c.handed_back-h.ensures.counted_value w.counted_held;
 }
 
 pub returns-then-hands_back : goal.returns-then-hands_back
 unfolding cut
 returns-then-hands_back c = let none = answered_none c.cut_asked.result _ _ c.in_default.is c.cut_asked.ensures in record {
-  same_but_nan_bits = simp (none, sym c.hands_back.ensures, c.if-hands_back.true) (cut_is _ _ c.args.unit c.args.cause c.args.cost c.handed_back-h.result _ _ _ c.name_of-name.result c.noted.result _ _ (c.handed_back-h.ensures.uses_after ∙ ap (handed_back _ c.args.unit) c.numbers.ensures) c.name_of-name.ensures c.noted.ensures.counted_after);
+  same_but_nan_bits =
+      let t : c.tags-1.given.0 ≡ c.noted.new.tags = search rules in
+      let u : c.units-1.given.0 ≡ c.handed_back-h.new.records.units.now = search rules in
+      let s : c.uses-1.given.0 ≡ c.handed_back-h.new.records.uses.now = search rules in
+      simp (none, sym c.hands_back.ensures, c.if-hands_back.true, t, u, s) (cut_is _ _ c.args.unit c.args.cause c.args.cost c.handed_back-h.result _ _ _ c.name_of-name.result c.noted.result _ _ (c.handed_back-h.ensures.uses_after ∙ ap (handed_back _ c.args.unit) c.numbers.ensures) c.name_of-name.ensures c.noted.ensures.counted_after);
   answer_value = c.noted.ensures.answer_value ∙ sym none;
 }
 

@@ -1,4 +1,4 @@
-use Rattle.std.proofs.Common.{ap, ◌∙◌, Err, None, Option}
+use Rattle.std.proofs.Common.{◌≡◌, ap, ◌∙◌, Err, None, Option, rules}
 use Rattle.head.proofs.Asked.{asked_ready}
 use Rattle.head.proofs.Bounds.{le_to, le_within}
 use Rattle.head.proofs.Numbers.{refused_is, answered_none}
@@ -56,7 +56,11 @@ bounded-requires c = record {
 pub returns : goal.returns
 unfolding judge ruling
 returns c = let none = answered_none c.judge_asked.result _ _ c.in_default.is c.judge_asked.ensures in record {
-  same_but_nan_bits = simp (none, sym c.is_unbounded.ensures, c.if-is_unbounded.false) c.bounded.ensures.counted_after;
+  same_but_nan_bits =
+      let t : c.tags-1.given.0 ≡ c.bounded.new.records.tags.now = search rules in
+      let u : c.units-1.given.0 ≡ c.bounded.new.records.units.now = search rules in
+      let s : c.uses-1.given.0 ≡ c.bounded.new.records.uses.now = search rules in
+      simp (none, sym c.is_unbounded.ensures, c.if-is_unbounded.false, t, u, s) c.bounded.ensures.counted_after;
   answer_value = c.bounded.ensures.answer_value ∙ sym none;
   same_but_nan_bits_2 = simp (none, sym c.is_unbounded.ensures, c.if-is_unbounded.false) c.bounded.ensures.ruling_value;
 }

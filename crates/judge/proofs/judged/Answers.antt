@@ -1,39 +1,10 @@
 use Rattle.judge.proofs.Passing.{judged_is, rule_is}
-use mathlib.Core.Path.{refl, sym, ◌∙◌}
 use Rattle.judge.proofs.judged.Goals as goal
 
-pub entry-p-requires : goal.entry-p-requires
-entry-p-requires c = record {
-  room_in_bounds = c.requires.unit_room_in_bounds;
-  units_len = c.requires.units_len;
-  uses_len = c.requires.uses_len;
-  tracked_le_room = c.requires.tracked_bound;
-  name_value = c.requires.name_value;
-  i_value = c.requires.i_value;
-}
+pub returns-clause-uses_after : goal.returns-clause-uses_after
+returns-clause-uses_after c =
+    rw c.put_back-overflow.ensures.tags_after (judged_is c.args.head _ c.args.unit c.args.hash c.args.cost c.args.clock c.entry-p.result _ _ _ _ _ c.used_at-used.result c.put_back-overflow.result c.rank_at-rank.result c.ruled-r.result.outcome c.flowed-flow.result c.requires.hash_value c.entry-p.ensures.uses_after c.used_at-used.ensures c.rank_at-rank.ensures c.ruled-r.ensures.outcome_value c.put_back-overflow.ensures.back c.flowed-flow.ensures)
 
-pub put_back-overflow-requires : goal.put_back-overflow-requires
-put_back-overflow-requires c =
-    c.entry-p.auto.units ∙ c.requires.units_len ∙ sym c.requires.uses_len ∙ sym c.entry-p.auto.uses
-
-pub shape_of-tags : goal.shape_of-tags
-shape_of-tags c =
-    c.entry-p.auto.tags
-
-pub shape_of-units : goal.shape_of-units
-shape_of-units c =
-    c.put_back-overflow.auto.units ∙ c.entry-p.auto.units
-
-pub shape_of-uses : goal.shape_of-uses
-shape_of-uses c =
-    c.put_back-overflow.auto.uses ∙ c.entry-p.auto.uses
-
-pub returns : goal.returns
-returns c = record {
-  uses_after = judged_is c.args.head _ c.args.unit c.args.hash c.args.cost c.args.clock c.entry-p.result _ _ _ _ _ c.used_at-used.result c.put_back-overflow.result c.rank_at-rank.result c.ruled-r.result.outcome c.flowed-flow.result c.requires.hash_value c.entry-p.ensures.uses_after c.used_at-used.ensures c.rank_at-rank.ensures c.ruled-r.ensures.outcome_value c.put_back-overflow.ensures c.flowed-flow.ensures;
-  tracked_bound_2 = c.entry-p.ensures.tracked_le_room_2;
-  counted_value = refl;
-  unit_room_value = refl;
-  scan_value = refl;
-  rule_value = rule_is c.args.head _ c.args.unit c.args.hash c.args.cost c.args.clock c.entry-p.result _ _ _ c.used_at-used.result c.rank_at-rank.result c.ruled-r.result.rule c.requires.hash_value c.entry-p.ensures.uses_after c.used_at-used.ensures c.rank_at-rank.ensures c.ruled-r.ensures.rule_value;
-}
+pub returns-clause-rule_value : goal.returns-clause-rule_value
+returns-clause-rule_value c =
+    rule_is c.args.head _ c.args.unit c.args.hash c.args.cost c.args.clock c.entry-p.result _ _ _ c.used_at-used.result c.rank_at-rank.result c.ruled-r.result.rule c.requires.hash_value c.entry-p.ensures.uses_after c.used_at-used.ensures c.rank_at-rank.ensures c.ruled-r.ensures.rule_value

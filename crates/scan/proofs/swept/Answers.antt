@@ -3,12 +3,6 @@ use Rattle.scan.specs.Walking.{walk}
 use Rattle.std.proofs.Common.{ap, ◌∙◌}
 use Rattle.scan.proofs.swept.Goals as goal
 
-pub retain-n-requires-clause-none : goal.retain-n-requires-clause-none
-retain-n-requires-clause-none c = c.walk_to_stale-i.ensures.none
-
-pub returns : goal.returns
-returns c = record {
-  uses_after = c.retain-n.ensures.uses_after;
-  sums_after = c.walk_rest.ensures _ (walked_before _ _ _ _ _ _ _ _ _ c.retain-n.ensures.uses_after c.walk_to_stale-i.ensures.upper_bound c.walk_to_stale-i.ensures.none (c.walk_to_stale-i.ensures.sums_after ∙ ap (walk _ _ _ _) c.walk_overflow.ensures));
-  upper_bound = c.retain-n.ensures.upper_bound;
-}
+pub returns-clause-sums_after : goal.returns-clause-sums_after
+returns-clause-sums_after c =
+    c.walk_rest.ensures _ (walked_before _ _ _ _ _ _ _ _ _ c.retain-n.ensures.uses_after c.walk_to_stale-i.ensures.upper_bound c.walk_to_stale-i.ensures.none (c.walk_to_stale-i.ensures.sums_after ∙ ap (walk _ _ _ _) c.walk_overflow.ensures))

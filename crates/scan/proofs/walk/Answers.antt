@@ -19,7 +19,7 @@ pub loop-i-preserved : goal.loop-i-preserved
 loop-i-preserved g c = (
   search rules,
   c.next_in-i-in-loop-i.ensures.result_value,
-  passed_on (λ (k : ℕ). goal.F-post g c.args.stops k false) (in_table c.args.tags.now c.args.table) c.args.from c.loop-i.i _
+  passed_on (λ (k : ℕ). goal.F-post g c.args.stops k false) (in_table c.args.records.now.tags.now c.args.table) c.args.from c.loop-i.i _
       c.loop-i.invariant.2 (rw c.if-not-stops.true at c.stops.ensures) c.next_in-i-in-loop-i.ensures.none,
   λ h e. c.walk_one.ensures
       ∙ ap (walk_one _ c.args.table c.args.at_ms c.loop-i.i) (c.loop-i.invariant.3 h e) ∙ sym (walk-next _ _ _ _ _)

@@ -1,4 +1,5 @@
-use Rattle.store.specs.Store.{rows, in_table}
+use Rattle.store.specs.Held.{held}
+use Rattle.store.specs.Store.{in_table}
 use Rattle.wants.specs.Wants.{Hist, hist}
 use Rattle.std.proofs.Common.{◌≡◌, ℕ, ◌-◌, ◌<◌, ◌≤◌, true, false}
 use Rattle.scan.specs.Walking.{walk}
@@ -6,10 +7,10 @@ use Rattle.scan.proofs.walk.Given as goal
 
 abbrev pub invariant-loop-i : goal.invariant-loop-i
 invariant-loop-i g l =
-    (l.i ≤ l.n) × (l.i < l.n → in_table l.tags l.table l.i ≡ true)
-    × ((k : ℕ) → l.from ≤ k → k < l.i → in_table l.tags l.table k ≡ true → goal.F-post g l.stops k false)
-    × ((h : Hist) → hist l.initial.counts l.initial.sums ≡ walk (rows l.tags l.units l.uses) l.table l.at_ms l.from h
-    → hist l.counts l.sums ≡ walk (rows l.tags l.units l.uses) l.table l.at_ms l.i h)
+    (l.i ≤ l.n) × (l.i < l.n → in_table l.records.tags.now l.table l.i ≡ true)
+    × ((k : ℕ) → l.from ≤ k → k < l.i → in_table l.records.tags.now l.table k ≡ true → goal.F-post g l.stops k false)
+    × ((h : Hist) → hist l.initial.counts l.initial.sums ≡ walk (held l.records) l.table l.at_ms l.from h
+    → hist l.counts l.sums ≡ walk (held l.records) l.table l.at_ms l.i h)
 
 abbrev pub decreases-loop-i : goal.decreases-loop-i
 decreases-loop-i g l = l.n - l.i

@@ -14,18 +14,18 @@ returns-then-head c =
     let head = c.args.head in
     simp (sym c.is_overflow.ensures ∙ c.if-is_overflow.false, lt-ltb head.tracked head.unit_room (omega (arith, c.if-head.true)))
 
-pub returns-then-tags-head : goal.returns-then-tags-head
+pub returns-then-records-head : goal.returns-then-records-head
 unfolding own_used
-returns-then-tags-head c =
-    simp (sym c.is_overflow.ensures ∙ c.if-is_overflow.false, le-ltb _ _ c.if-head.false, lt-ltb _ _ c.if-tags-head.true)
+returns-then-records-head c =
+    simp (sym c.is_overflow.ensures ∙ c.if-is_overflow.false, le-ltb _ _ c.if-head.false, lt-ltb _ _ c.if-records-head.true)
 
-pub returns-then-units-head : goal.returns-then-units-head
+pub returns-then-records-head-2 : goal.returns-then-records-head-2
 unfolding own_used
-returns-then-units-head c =
-    simp (sym c.is_overflow.ensures ∙ c.if-is_overflow.false, le-ltb _ _ c.if-head.false, le-ltb _ _ c.if-tags-head.false, lt-ltb _ _ c.if-units-head.true)
+returns-then-records-head-2 c =
+    simp (sym c.is_overflow.ensures ∙ c.if-is_overflow.false, le-ltb _ _ c.if-head.false, le-ltb _ _ c.if-records-head.false, lt-ltb _ _ c.if-records-head-2.true)
 
 pub returns : goal.returns
 unfolding own_used
 returns c =
     let over = sym c.is_overflow.ensures ∙ c.if-is_overflow.false in
-    simp (over, le-ltb _ _ c.if-head.false, le-ltb _ _ c.if-tags-head.false, le-ltb _ _ c.if-units-head.false, c.find-i.ensures, c.name_of-name.ensures)
+    simp (over, le-ltb _ _ c.if-head.false, le-ltb _ _ c.if-records-head.false, le-ltb _ _ c.if-records-head-2.false, c.find-i.ensures, c.name_of-name.ensures)
