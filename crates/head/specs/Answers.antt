@@ -1,4 +1,4 @@
--- The number of an answer: that of the question answered no, and 0 where the call was not refused. Definitions and statement only; proofs/Answers proves it.
+-- The number of an answer: that of the question answered no, and 0 where the call was not refused. Definitions and statement only; proofs/Numbers proves it.
 use Rattle.std.specs.Prelude.{ℕ, ◌≤◌, ◌≡◌, ⊤, cond, eqb, Option, Result, Ok, Err, Bool, Float}
 use Rattle.verdict.specs.declared.Verdict.{Verdict}
 use Rattle.head.specs.declared.Refusal.{Refusal}

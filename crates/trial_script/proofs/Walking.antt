@@ -2,7 +2,7 @@
 use mathlib.Core.Path.{◌≡◌, refl, sym, ap, ◌∙◌}
 use mathlib.Core.Bool.{Bool, true, false, cond, ◌&&◌}
 use mathlib.Core.List.{List, [], ◌∷◌, ◌++◌, append_assoc}
-use Prim.Native.Nat.{ℕ, suc, ◌+◌, ◌-◌, ◌*◌, ◌≤◌, ◌<◌}
+use Prim.Native.Nat.{ℕ, zero, suc, ◌+◌, ◌-◌, ◌*◌, ◌≤◌, ◌<◌}
 use native.Mathlib.Numerals.{add-one}
 use native.Mathlib.Omega.{arith}
 use borrow.Author.Tests.{lt-ltb, ltb-true, ltb-false}
@@ -16,7 +16,7 @@ use Rattle.text.proofs.Orders.{same_is}
 use Rattle.text.specs.Number.{decimal}
 use lib.ListN.{set, length, take, drop, length-drop, drop_of_length-le}
 use lib.Seq.{take_all}
-use Rattle.trial_script.specs.Fields.{width, first, rest, grown, read, is_number, are_numbers, numbers, number_in}
+use Rattle.trial_script.specs.Fields.{width, first, rest, grown, read, is_number, are_numbers, number_at, numbers, number_in}
 
 -- the first space, as the code finds it
 one_more : (t : Bool) (n : ℕ) → cond t 0 (suc n) ≡ cond t 0 (1 + n)
@@ -126,3 +126,22 @@ module _ (left : List ℕ) (last k : ℕ) (all : last ≤ k) (within : k ≤ las
       ∙ take_more_set xs last v (omega arith)
       ∙ ap (λ (n : ℕ). take last xs ++ (n ∷ [])) (e ∙ ap number_in (sym f))
       ∙ rw (c, d) at h
+
+-- ---- numbers and fields, one more
+pub are_none : (s : List ℕ) (more : ℕ) → more ≡ 0 → is_number s ≡ are_numbers more s
+unfolding are_numbers
+are_none s more e = rw e refl
+
+pub are_more : (s : List ℕ) (more : ℕ) → (more ≡ 0 → ⊥) → are_numbers more s ≡ (is_number (first s) && are_numbers (more - 1) (rest s))
+unfolding are_numbers
+are_more s zero n = absurd (n refl)
+are_more s (suc more) n = let e : suc more - 1 ≡ more = omega arith in rw e refl
+
+pub at_none : (s : List ℕ) (k : ℕ) → k ≡ 0 → number_in (first s) ≡ number_at k s
+unfolding number_at
+at_none s k e = rw e refl
+
+pub at_more : (s : List ℕ) (k : ℕ) → (k ≡ 0 → ⊥) → number_at (k - 1) (rest s) ≡ number_at k s
+unfolding number_at
+at_more s zero n = absurd (n refl)
+at_more s (suc k) n = let e : suc k - 1 ≡ k = omega arith in rw e refl

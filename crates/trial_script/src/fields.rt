@@ -100,3 +100,39 @@ pub fn numbers<const N: usize>(s: &[u8]) -> Option<[u64; N]>
     numbers[last] = number(left)?;
     Some(numbers)
 }
+
+// Whether s is a number: the decimal of a u64.
+fn is_number(s: &[u8]) -> bool
+    ensures { result ≡ fields.is_number s.now }
+{
+    match number(s) {
+        Some(_) => true,
+        None => false,
+    }
+}
+
+// Whether s is a number and `more` numbers behind it, with one space between each two.
+pub fn are_numbers(s: &[u8], more: usize) -> bool
+    ensures { result ≡ fields.are_numbers more s.now }
+{
+    if more == 0 {
+        return is_number(s);
+    }
+    let (field, behind) = split(s);
+    if !is_number(field) {
+        return false;
+    }
+    are_numbers(behind, more - 1)
+}
+
+// The number in the field of index k, read as digits without asking whether they are.
+pub fn number_at(s: &[u8], k: usize) -> u64
+    ensures { result ≡ fields.number_at k s.now }
+{
+    let (field, behind) = split(s);
+    if k == 0 {
+        number_in(field)
+    } else {
+        number_at(behind, k - 1)
+    }
+}

@@ -10,7 +10,7 @@ ghost use Rattle.trial_script.specs.Script as script;
 
 pub use answers::{put_answer, put_begin, put_done, put_refused};
 use fields::split;
-pub use fields::{first, numbers, rest};
+pub use fields::{are_numbers, first, number_at, numbers, rest};
 use flow::DIMS;
 use head::Cause;
 pub use lines::{FEED, LINE, front, keep};
