@@ -7,7 +7,7 @@ use lib.Ieee.{Float}
 use Rattle.sender.specs.declared.Unit.{Unit}
 use Rattle.sender.specs.declared.Name.{Name}
 use Rattle.sender.specs.Sender.{name_of}
-use Rattle.store.specs.Store.{Rows, rows}
+use Rattle.store.specs.Store.{rows}
 use Rattle.head.specs.declared.Shedder.{Shedder}
 use Rattle.head.specs.declared.Cause.{Cause}
 use Rattle.head.specs.Readings.{index_of}

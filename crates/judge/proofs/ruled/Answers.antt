@@ -2,7 +2,6 @@ use Rattle.verdict.specs.Verdict.{judged}
 use Rattle.verdict.specs.Rules as rules
 use Rattle.judge.specs.Judging.{outcome, rule}
 use Rattle.judge.proofs.Passing.{ruled_is}
-use borrow.Author.Rules.{rules}
 use Rattle.judge.proofs.ruled.Goals as goal
 
 pub returns : goal.returns

@@ -2,7 +2,7 @@
 use mathlib.Core.Path.{sym, ap, ◌∙◌}
 use borrow.Author.Rules.{rules}
 use Rattle.report.specs.Report as reports
-use Rattle.fair_row.proofs.Reading.{front_length, part_put}
+use Rattle.fair_row.proofs.Reported.{front_length, part_put}
 use Rattle.fair_row.proofs.read.put_report.Goals as goal
 
 pub slice_bounds-report-end : goal.slice_bounds-report-end
