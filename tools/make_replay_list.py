@@ -19,9 +19,9 @@ import gens
 
 SEED, SIZE = 7354, 1500
 UNITS = 256
-ROWS = 4096
+CALLS = 4096
 DIMS = 2
-# the rows that the program makes of a P line: a report, the call beside it, five readings of the head
+# the calls that the program makes of a P line: a report, the call beside it, five readings of the head
 READINGS = 7
 HEAD = (b'rate ', b'ceiling ', b'active ', b'receiver-ceiling ', b'over-share ', b'relay-rate ')
 NEAR = Fraction(1, 100)
@@ -33,7 +33,7 @@ def double(word):
 
 
 # ---- what the oracle says
-class Row:
+class Call:
     """A call: the index of its line, its fields, its answer, the numbers of its cost, and of a judgement what it met."""
 
     def __init__(self, line, fields, answer, met):
@@ -77,47 +77,47 @@ def answered(lines):
     return out
 
 
-def rows_of(lines):
-    """The rows that the program makes of the lines behind the R line, and the text of each report by its row."""
+def calls_of(lines):
+    """The calls that the program makes of the lines behind the R line, and the text of each report by the place of its call."""
     answers = answered(lines)
     assert answers[0][1] == [b'started'] and not lines[0].startswith(b'R 18446744073709551615 ')
-    rows, reports = [], {}
+    calls, reports = [], {}
     for i, (line, text) in enumerate(answers[1:], 1):
         if text == [b'refused 8']:
             continue
         if line == b'P':
-            reports[len(rows)] = b'\n'.join(text) + b'\n'
-            rows += [Row(i, [b'P'], text[0], None)] * READINGS
+            reports[len(calls)] = b'\n'.join(text) + b'\n'
+            calls += [Call(i, [b'P'], text[0], None)] * READINGS
         else:
-            rows.append(Row(i, line.split(b' '), text[0], text[1].split(b' ') if len(text) > 1 else None))
-    assert len(rows) <= ROWS
-    return rows, reports
+            calls.append(Call(i, line.split(b' '), text[0], text[1].split(b' ') if len(text) > 1 else None))
+    assert len(calls) <= CALLS
+    return calls, reports
 
 
 # ---- what the program must say of a run
-def summed(rows):
-    return [sum(r.cost[d] for r in rows) for d in range(DIMS)]
+def summed(calls):
+    return [sum(r.cost[d] for r in calls) for d in range(DIMS)]
 
 
-def taken_in(rows, start, end):
-    return [r for r in rows[start:end] if not r.is_refused]
+def taken_in(calls, start, end):
+    return [r for r in calls[start:end] if not r.is_refused]
 
 
 def admitted_in(run, key=None):
     return [r for r in run if r.is_judged and r.answer == b'ok' and (key is None or r.key == key)]
 
 
-def page_after(rows, reports, end):
+def page_after(calls, reports, end):
     page = b''
-    for row, text in sorted(reports.items()):
-        if row < end:
+    for place, text in sorted(reports.items()):
+        if place < end:
             page = text + page[len(text):]
     return page
 
 
-def state_after(lines, rows, end):
-    """The report of the state that the rows before `end` left."""
-    last = rows[min(end, len(rows)) - 1].line if end and rows else 0
+def state_after(lines, calls, end):
+    """The report of the state that the calls before `end` left."""
+    last = calls[min(end, len(calls)) - 1].line if end and calls else 0
     said = printed(lines[:last + 1] + [b'P'])
     first = len(said) - 1
     while not said[first].startswith(HEAD[0]):
@@ -125,35 +125,35 @@ def state_after(lines, rows, end):
     return b'\n'.join(said[first:]) + b'\n'
 
 
-def said_of(lines, rows, reports, watch):
+def said_of(lines, calls, reports, watch):
     key, start, end = watch
-    run = taken_in(rows, start, end)
+    run = taken_in(calls, start, end)
     over = bool(run) and run[-1].answer == b'over-share'
     totals = (b'admitted', admitted_in(run)), (b'on-watched', admitted_in(run, key)), (b'handed-back', [r for r in run if r.is_handed])
     out = b'W %s %d %d\n' % watch
     out += b''.join(b'%s %d %d\n' % (word, *summed(counted)) for word, counted in totals)
     out += b'taken %d\nover-share %s\n' % (len(run), b'yes' if over else b'no')
-    return out + b'page\n' + page_after(rows, reports, end) + b'state\n' + state_after(lines, rows, end)
+    return out + b'page\n' + page_after(calls, reports, end) + b'state\n' + state_after(lines, calls, end)
 
 
 # ---- the bounds
-def clocks(rows):
-    """The clock after each row: the highest stamp so far of a call not refused."""
+def clocks(calls):
+    """The clock after each call: the highest stamp so far of a call not refused."""
     out, clock = [], 0
-    for r in rows:
+    for r in calls:
         clock = max(clock, 0 if r.is_refused else r.stamp)
         out.append(clock)
     return out
 
 
-def seconds(rows, start, end):
-    """T of the run of the taken rows among rows[start:end]."""
-    at = [t for t, r in zip(clocks(rows)[start:end], rows[start:end]) if not r.is_refused]
+def seconds(calls, start, end):
+    """T of the run of the taken calls among calls[start:end]."""
+    at = [t for t, r in zip(clocks(calls)[start:end], calls[start:end]) if not r.is_refused]
     return Fraction(at[-1] - at[0], 1000)
 
 
-def fill(row, d):
-    return Fraction(min(row.levels[d], RATE[d]))
+def fill(call, d):
+    return Fraction(min(call.levels[d], RATE[d]))
 
 
 def part_of(admitted, bound):
@@ -163,44 +163,44 @@ def part_of(admitted, bound):
     return ' '.join('%.5f' % p for p in parts)
 
 
-def relay_part(rows, start, end, ceiling):
-    run = taken_in(rows, start, end)
+def relay_part(calls, start, end, ceiling):
+    run = taken_in(calls, start, end)
     handed = summed([r for r in run if r.is_handed])
     assert all(handed)
     burst = [max(RATE[d], min(ceiling[d], gens.MOST), 1) for d in range(DIMS)]
-    bound = [burst[d] + RATE[d] * seconds(rows, start, end) + handed[d] + Fraction(len(run), 256) for d in range(DIMS)]
+    bound = [burst[d] + RATE[d] * seconds(calls, start, end) + handed[d] + Fraction(len(run), 256) for d in range(DIMS)]
     return part_of(summed(admitted_in(run)), bound)
 
 
-def share_part(rows, start, end, key):
+def share_part(calls, start, end, key):
     """The cuts of these lists name a unit that uses the record `key`."""
-    run = taken_in(rows, start, end)
+    run = taken_in(calls, start, end)
     handed = summed([r for r in run if r.is_handed and r.fields[1] == key])
     judged = [r for r in run if r.is_judged and r.key == key]
     assert all(handed) and {r.fields[1] for r in run if r.kind == b'C'} == {key}
-    bound = [(4 + seconds(rows, start, end)) * max(fill(r, d) for r in judged) + handed[d] + Fraction(len(run), 256) for d in range(DIMS)]
+    bound = [(4 + seconds(calls, start, end)) * max(fill(r, d) for r in judged) + handed[d] + Fraction(len(run), 256) for d in range(DIMS)]
     return part_of(summed(admitted_in(run, key)), bound)
 
 
-def want(row):
+def want(call):
     """How many times the level the sender of a judgement wants, in doubles as the definition has it."""
-    idle = max(0, row.stamp - row.at)
-    weight = 1.0 if row.is_fresh or idle >= 2000 else 0.5
-    return max((row.attempted[d] + (weight - 1.0) * row.cost[d]) / 2.0 / row.levels[d] for d in range(DIMS))
+    idle = max(0, call.stamp - call.at)
+    weight = 1.0 if call.is_fresh or idle >= 2000 else 0.5
+    return max((call.attempted[d] + (weight - 1.0) * call.cost[d]) / 2.0 / call.levels[d] for d in range(DIMS))
 
 
-def tried_part(rows):
+def tried_part(calls):
     """Of the last judgement: in the run from a judgement of its record to it that comes closest, cost tried and n / 256 over
     (4 + T) * the lowest fill, in the dimension where that is most. No record of these lists is dropped and added again."""
-    last = rows[-1]
-    mine = [i for i, r in enumerate(rows) if r.is_judged and r.key == last.key]
-    assert want(last) <= 1 and not any(rows[i].is_added for i in mine[1:])
+    last = calls[-1]
+    mine = [i for i, r in enumerate(calls) if r.is_judged and r.key == last.key]
+    assert want(last) <= 1 and not any(calls[i].is_added for i in mine[1:])
     parts = []
     for i in mine:
-        run, judged = taken_in(rows, i, len(rows)), [rows[j] for j in mine if j >= i]
+        run, judged = taken_in(calls, i, len(calls)), [calls[j] for j in mine if j >= i]
         for d in range(DIMS):
             tried = summed(judged)[d] + Fraction(len(run), 256)
-            parts.append(tried / ((4 + seconds(rows, i, len(rows))) * min(fill(r, d) for r in judged)))
+            parts.append(tried / ((4 + seconds(calls, i, len(calls))) * min(fill(r, d) for r in judged)))
     return max(parts)
 
 
@@ -233,8 +233,8 @@ def crowd():
 
 def fills_after(lines):
     """The fills that the next judgement meets."""
-    row = rows_of(lines + [judge(b'no-address', (0, 0), 2000)])[0][-1]
-    found = [fill(row, d) for d in range(DIMS)]
+    call = calls_of(lines + [judge(b'no-address', (0, 0), 2000)])[0][-1]
+    found = [fill(call, d) for d in range(DIMS)]
     assert all(f < r for f, r in zip(found, RATE))
     return found
 
@@ -296,7 +296,7 @@ def spared_list(cost):
 
 
 def last_answer(cost):
-    return rows_of(spared_list(cost))[0][-1].answer
+    return calls_of(spared_list(cost))[0][-1].answer
 
 
 def spared_costs():
@@ -306,7 +306,7 @@ def spared_costs():
         mid = (low + high) // 2
         low, high = (low, mid) if last_answer(mid) == b'over-share' else (mid, high)
     past = high
-    while tried_part(rows_of(spared_list(low))[0]) > 1:
+    while tried_part(calls_of(spared_list(low))[0]) > 1:
         low -= 1
     return low, past
 
@@ -317,41 +317,41 @@ stdin, stdout = [], []
 
 def add(lines, watches, figures=None):
     """A list, the line of figures, and its runs."""
-    rows, reports = rows_of(lines)
+    calls, reports = calls_of(lines)
     stdin.extend(lines)
     if figures:
-        stdin.append(b'# ' + figures(rows).encode())
+        stdin.append(b'# ' + figures(calls).encode())
     for watch in watches:
         stdin.append(b'W %s %d %d' % watch)
-        stdout.append(said_of(lines, rows, reports, watch))
-    return rows
+        stdout.append(said_of(lines, calls, reports, watch))
+    return calls
 
 
 lines = gens_list()
-rows, _ = rows_of(lines)
-first = next(r.fields[1] for r in rows if r.kind == b'J')
+calls, _ = calls_of(lines)
+first = next(r.fields[1] for r in calls if r.kind == b'J')
 assert first != b'overflow'
-assert {r.answer for r in rows if r.kind != b'P'} >= {b'ok', b'over-share', b'relay-rate', b'counted', b'refused 5', b'refused 6'}
+assert {r.answer for r in calls if r.kind != b'P'} >= {b'ok', b'over-share', b'relay-rate', b'counted', b'refused 5', b'refused 6'}
 assert b'refused 8' in {text[0] for _, text in answered(lines)}
-assert all(summed(admitted_in(rows, key)) > [0, 0] for key in (first, b'overflow'))
-add(lines, [(first, 0, ROWS), (first, 400, 1200), (b'overflow', 0, ROWS), (first, 1000, 1000)])
+assert all(summed(admitted_in(calls, key)) > [0, 0] for key in (first, b'overflow'))
+add(lines, [(first, 0, CALLS), (first, 400, 1200), (b'overflow', 0, CALLS), (first, 1000, 1000)])
 
 lines = relay_list()
 size = len(lines) - 1
-add(lines, [(sender(20), 32, size)], lambda rows: 'admitted over the first bound: ' + relay_part(rows, 32, size, (0, 0)))
+add(lines, [(sender(20), 32, size)], lambda calls: 'admitted over the first bound: ' + relay_part(calls, 32, size, (0, 0)))
 key = b'v4:20.0.0.0/16'
 lines = own_list()
 size = len(lines) - 1
-add(lines, [(key, 32, size)], lambda rows: 'admitted on the record over the second bound: ' + share_part(rows, 32, size, key))
+add(lines, [(key, 32, size)], lambda calls: 'admitted on the record over the second bound: ' + share_part(calls, 32, size, key))
 lines = overflow_list()
 size = len(lines) - 1
 add(lines, [(b'overflow', UNITS + 32, size), (b'v6:2001:1::/32', UNITS + 32, size)],
-    lambda rows: "admitted on overflow's record over the second bound: " + share_part(rows, UNITS + 32, size, b'overflow'))
+    lambda calls: "admitted on overflow's record over the second bound: " + share_part(calls, UNITS + 32, size, b'overflow'))
 within, past = spared_costs()
 for cost, word in ((within, b'ok'), (past, b'over-share')):
     lines = spared_list(cost)
-    rows = add(lines, [(key, 32, len(lines) - 1)], lambda rows: 'want %.5f, cost tried over the third condition: %.7f' % (want(rows[-1]), tried_part(rows)))
-    assert rows[-1].answer == word
-    assert 1 - NEAR <= tried_part(rows) <= 1 if word == b'ok' else 1 < tried_part(rows) <= 1 + NEAR
+    calls = add(lines, [(key, 32, len(lines) - 1)], lambda calls: 'want %.5f, cost tried over the third condition: %.7f' % (want(calls[-1]), tried_part(calls)))
+    assert calls[-1].answer == word
+    assert 1 - NEAR <= tried_part(calls) <= 1 if word == b'ok' else 1 < tried_part(calls) <= 1 + NEAR
 open(folder + '/stdin', 'wb').write(b'\n'.join(stdin) + b'\n')
 open(folder + '/stdout', 'wb').write(b''.join(stdout))

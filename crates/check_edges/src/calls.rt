@@ -4,6 +4,7 @@ use check_steps::{Answer, Call, Step, Tried};
 use flow::DIMS;
 use head::{Cause, Shedder};
 use std::io;
+use text::Page;
 use trial::Trial;
 use wants::BUCKETS;
 
@@ -150,14 +151,12 @@ fn line(
         counted,
         out,
     } = lent;
-    let t = Trial {
-        head,
-        is_started,
-        at: 0,
-    };
-    let a = trial::answer(t, tags, units, uses, counts, sums, counted, line, out);
-    check_steps::line(rt, line, trial_script::front(out, a.at))?;
-    let mut tried = written(Ok(None), a.head, a.at);
+    let t = Trial { head, is_started };
+    let mut page = Page::at_front(out);
+    let a = trial::answer(t, tags, units, uses, counts, sums, counted, line, &mut page);
+    let at = page.at;
+    check_steps::line(rt, line, trial_script::front(page.out, at))?;
+    let mut tried = written(Ok(None), a.head, at);
     tried.unchanged = a.is_started == is_started;
     Ok(tried)
 }

@@ -1,48 +1,21 @@
-// Standard input as lists of calls: each line of the trial's language as rows of `replay`. An R line begins a list, and each
+// Standard input as lists of calls: each line of the trial's language as calls of `replay`. An R line begins a list, and each
 // W line behind it runs it.
 use crate::runs;
 use check_lines::whole_line;
-use flow::DIMS;
-use sender::Unit;
+use codes::{cause_of, dim_of};
+use fair_row::{Call, Reading};
 use std::alloc::Global;
 use std::io::{self, BufRead};
 use trial_script::{Amounts, CutLine, JudgeLine, LINE_MOST, Line, StartLine, first, numbers, rest};
 
-// A call as `replay` takes it: words, of which the first is its number.
-pub type Row = [u64; 7 + DIMS];
+// The calls that a list may have.
+const CALLS: usize = 4096;
 
-// The rows that a list may have.
-const ROWS: usize = 4096;
-
-// The numbers of `replay` for the calls that a line gives.
-const JUDGE: u64 = 0;
-
-const CUT: u64 = 1;
-
-const REPORT: u64 = 2;
-
-const IS_BOUNDED: u64 = 8;
-
-// The last R line, and the rows since.
+// The last R line, and the calls since.
 #[derive(Drop)]
 struct List {
     start: StartLine,
-    rows: Vec<Row>,
-}
-
-fn row_of(which: u64, unit: Unit, last: u64, cost: Amounts) -> Row {
-    let w = sender::words_of(unit);
-    [
-        which,
-        w.kind,
-        w.a,
-        w.b,
-        w.c,
-        w.d,
-        last,
-        cost.receptions,
-        cost.bytes,
-    ]
+    calls: Vec<Call>,
 }
 
 impl List {
@@ -56,47 +29,64 @@ impl List {
                 rate: none,
                 ceiling: none,
             },
-            rows: Vec::new(alloc),
+            calls: Vec::new(alloc),
         }
     }
 
-    // A list of one row more is too long, and is not run: no further row is kept.
+    // A list of one call more is too long, and is not run: no further call is kept.
     fn is_too_long(&self) -> bool {
-        self.rows.len() > ROWS
+        self.calls.len() > CALLS
     }
 
     fn begin(&mut self, start: StartLine) -> io::Result<()> {
         self.start = start;
-        self.rows.clear();
+        self.calls.clear();
         Ok(())
     }
 
-    fn push(&mut self, row: Row) -> io::Result<()> {
+    fn push(&mut self, call: Call) -> io::Result<()> {
         if !self.is_too_long() {
-            self.rows.push(row)?;
+            self.calls.push(call)?;
         }
         Ok(())
     }
 
     fn judge(&mut self, j: JudgeLine) -> io::Result<()> {
-        self.push(row_of(JUDGE, j.unit, j.stamp, j.cost))
+        self.push(Call::Judge {
+            unit: j.unit,
+            cost: j.cost.into(),
+            stamp: j.stamp,
+        })
     }
 
     fn cut(&mut self, c: CutLine) -> io::Result<()> {
-        self.push(row_of(CUT, c.unit, head::index_of(c.cause) as u64, c.cost))
+        self.push(Call::Cut {
+            unit: c.unit,
+            cause: c.cause,
+            cost: c.cost.into(),
+        })
     }
 
-    // A P line is a report, the call beside it, and each reading of the head; which cause or dimension is read changes from
-    // row to row.
+    // A P line is a report, the call beside it, and each reading of the head; which cause or dimension is read changes with
+    // the place in the list.
     fn read_all(&mut self) -> io::Result<()> {
-        for which in REPORT..=IS_BOUNDED {
-            let n = self.rows.len() as u64 % 3;
-            self.push([which, 0, 0, 0, 0, 0, n, 0, 0])?;
+        let place = self.calls.len() as u64 % 3;
+        let readings = [
+            Reading::Report,
+            Reading::ReportBeside,
+            Reading::Count(cause_of((place + 2) % 3)),
+            Reading::Visited,
+            Reading::Level(dim_of((place + 4) % 3)),
+            Reading::Rate(dim_of((place + 5) % 3)),
+            Reading::IsBounded,
+        ];
+        for reading in readings {
+            self.push(Call::Read(reading))?;
         }
         Ok(())
     }
 
-    // `W label from to`: the list is run with that record watched, the run being the rows from `from` to before `to`. The line
+    // `W label from to`: the list is run with that record watched, the run being the calls from `from` to before `to`. The line
     // is said again, so that what it gives stands below it. Any other line that has no form is no call.
     fn watch(&self, rt: &impl Print, line: &[u8]) -> io::Result<()> {
         if first(line) != b"W".as_slice() {
@@ -118,7 +108,7 @@ impl List {
         runs::run(
             rt,
             self.start,
-            self.rows.as_slice(),
+            self.calls.as_slice(),
             watched,
             from as usize,
             to as usize,

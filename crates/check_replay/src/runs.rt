@@ -1,6 +1,6 @@
 // A list through `fair_replay::replay`, from a start over memory of zero bits; what is said of it.
-use crate::list::Row;
 use fair_replay::Replayed;
+use fair_row::Call;
 use flow::DIMS;
 use sender::Unit;
 use std::io;
@@ -44,7 +44,7 @@ fn say_state(rt: &impl Print, r: &Replayed, m: &Memory) -> io::Result<()> {
 pub fn run(
     rt: &impl Print,
     start: StartLine,
-    list: &[Row],
+    list: &[Call],
     watched: Unit,
     from: usize,
     to: usize,

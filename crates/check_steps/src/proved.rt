@@ -5,10 +5,9 @@ ghost use Rattle.wants.specs.Wants as wants;
 
 use crate::says::Level;
 use flow::{Bucket, DIMS, Use};
-use label::LABEL_MOST;
+use label::Label;
 use sender::{Group, Unit};
 use std::io;
-use trial_script::front;
 use wants::BUCKETS;
 
 fn hashes(rt: &impl Print) -> io::Result<()> {
@@ -80,10 +79,9 @@ fn pruned(rt: &impl Print, totals: [u64; 5]) -> io::Result<()> {
 }
 
 fn prefix(rt: &impl Print) -> io::Result<()> {
-    let mut label = [0u8; LABEL_MOST];
-    let n = label::write_label(Unit::Group(Group::V6(0x20010000)), &mut label, 0);
+    let label = Label::of(Unit::Group(Group::V6(0x20010000)));
     rt.print("prefix 20010000: ")?;
-    rt.write_all(front(&label, n))?;
+    rt.write_all(label.as_bytes())?;
     rt.println("")
 }
 

@@ -1,6 +1,6 @@
 -- A judgement that is not refused: the real state after it is tied to the model's store after the model's judgement. Assumes nothing.
 use mathlib.Core.Path.{◌≡◌, refl, sym, ap, ◌∙◌, subst}
-use Prim.Native.Nat.{ℕ, ◌+◌, ◌-◌, ◌^◌, ◌≤◌, ◌<◌, max}
+use Prim.Native.Nat.{ℕ, ◌^◌, ◌≤◌, ◌<◌, max}
 use native.Mathlib.Nat.{le_of_eq, le_trans}
 use native.Mathlib.Omega.{arith}
 use mathlib.Core.Bool.{Bool, true, false, cond, true≢false}
@@ -9,10 +9,10 @@ use lib.Dec.{eqb, leb, ltb}
 use lib.ListN.{length, get_or, take, length-append, get_or-append}
 use lib.Seq.{length-take-le, get_or-take}
 use lib.Ieee.{Float}
-use borrow.Author.Tests.{eqb-true, eq-eqb, leb-true, ltb-false}
+use borrow.Author.Tests.{eqb-true, leb-true, ltb-false}
 use Rattle.flow.proofs.Parts.{all-at}
 use Rattle.sender.specs.Sender as sender
-use Rattle.flow.specs.Flow.{dims, at, bucket_at}
+use Rattle.flow.specs.Flow.{dims, bucket_at}
 use Rattle.verdict.specs.Verdict.{is_admitted}
 use Rattle.flow.specs.declared.Use.{Use}
 use Rattle.verdict.specs.declared.Outcome.{Outcome}

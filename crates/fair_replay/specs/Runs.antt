@@ -4,6 +4,7 @@ use Rattle.sender.specs.declared.Unit as unit
 use Rattle.head.specs.Bits.{SameButNanBits}
 use Rattle.fair.specs.Calls as calls
 use Rattle.fair.specs.Calls.{State, events}
+use Rattle.fair_row.specs.declared.Call as given
 use Rattle.fair_row.specs.declared.Turned.{Turned}
 use Rattle.fair_row.specs.Replay.{Run, run, counts, sums, totals, ends_over_share, key_of}
 use Rattle.fair_replay.specs.declared.Replayed.{Replayed}
@@ -28,13 +29,13 @@ pub record Ran (watched : unit.Unit) (first : State) (x : Run) (r : Replayed) (l
   pub taken : r.taken ≡ x.taken % 2 ^ 64
   pub over_share : r.over_share ≡ ends_over_share x.taken (events first x.list)
 
--- the rows before row `to`, all where there are fewer; the run begins at row `from`
-abbrev pub rows_run : ℕ → ℕ → State → List ℕ → List (List ℕ) → Run
-rows_run from to first page rows = run first from page rows (min to (length rows))
+-- the calls before call `to`, all where there are fewer; the run begins at call `from`
+abbrev pub list_run : ℕ → ℕ → State → List ℕ → List given.Call → Run
+list_run from to first page list = run first from page list (min to (length list))
 
 -- and demand 3's three claims of the run
-pub record Replays (watched : unit.Unit) (from to : ℕ) (first : State) (page : List ℕ) (rows : List (List ℕ)) (r : Replayed) (last : State) (out : List ℕ) : Type 0 where
-  pub ran : Ran watched first (rows_run from to first page rows) r last out
-  pub relay : Relay first (rows_run from to first page rows) r.admitted
-  pub share : Share watched first (rows_run from to first page rows) r.admitted_on
-  pub spared : Spared first (rows_run from to first page rows) r.over_share
+pub record Replays (watched : unit.Unit) (from to : ℕ) (first : State) (page : List ℕ) (list : List given.Call) (r : Replayed) (last : State) (out : List ℕ) : Type 0 where
+  pub ran : Ran watched first (list_run from to first page list) r last out
+  pub relay : Relay first (list_run from to first page list) r.admitted
+  pub share : Share watched first (list_run from to first page list) r.admitted_on
+  pub spared : Spared first (list_run from to first page list) r.over_share

@@ -1,11 +1,11 @@
-// A list of calls, given as rows of words, run through the real calls, and the totals of a run in it: demand 3's claims hold of them.
+// A list of calls run through the real calls, and the totals of a run in it: demand 3's claims hold of them.
 #![tactic(auto)]
 
 ghost use Rattle.std.specs.Prelude.{◌≡◌, min};
 ghost use Rattle.fair_row.specs.Replay as replay;
 ghost use Rattle.fair_replay.specs.Runs as runs;
 
-use fair_row::Turned;
+use fair_row::{Call, Turned};
 use flow::DIMS;
 use head::Shedder;
 use sender::Unit;
@@ -33,7 +33,7 @@ pub struct Replayed {
     pub over_share: bool,
 }
 
-// Whether a call is one of the run: its row is, and it was not refused by number.
+// Whether a call is one of the run: its place is, and it was not refused by number.
 #[tactic(auto, unfolding(fair_row::specs::Replay::counts))]
 fn counts(inside: bool, number: u64) -> bool
     ensures { result ≡ replay.counts inside number }
@@ -61,7 +61,7 @@ fn after(run: Replayed, t: Turned, inside: bool) -> Replayed
     }
 }
 
-// The rows before row `to`, in order, all where there are fewer; those from row `from` on are the run. `watched` names the
+// The calls before call `to`, in order, all where there are fewer; those from call `from` on are the run. `watched` names the
 // record that is watched, by its unit: overflow's by the unit overflow. out is the buffer of the reports.
 pub fn replay(
     head: Shedder,
@@ -72,7 +72,7 @@ pub fn replay(
     sums: &mut Sums,
     counted: &mut [SourceRow],
     watched: Unit,
-    list: &[[u64; 7 + DIMS]],
+    list: &[Call],
     from: usize,
     to: usize,
     out: &mut [u8],

@@ -2,4 +2,4 @@ pub mod Turning
 pub mod Watched
 pub mod Totals
 pub mod Amounts
-pub mod Reading
+pub mod Reported

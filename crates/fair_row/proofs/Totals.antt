@@ -14,6 +14,7 @@ use Rattle.flow.proofs.Parts.{upto_at}
 use Rattle.fair.specs.Calls as calls
 use Rattle.fair.specs.Calls.{State, Call, Event, event, events, by}
 use Rattle.fair.specs.Runs.{sum}
+use Rattle.fair_row.specs.declared.Call as given
 use Rattle.fair_row.specs.Replay.{amounts, sums, counts, totals, over_share, ends_over_share, run, run_after}
 
 -- two functions that agree at each dimension give the same list
@@ -36,11 +37,11 @@ refused_is n true e = le-ltb 0 n (omega (arith, eqb-true n 0 e))
 refused_is zero false e = absurd (true≢false e)
 refused_is (suc n) false e = lt-ltb 0 (suc n) (omega arith)
 
--- before row `from` the run has no call
-pub taken_before : (first : State) (from : ℕ) (page : List ℕ) (rows : List (List ℕ)) (i : ℕ) → i ≤ from → (run first from page rows i).taken ≡ 0
+-- before call `from` the run has none
+pub taken_before : (first : State) (from : ℕ) (page : List ℕ) (list : List given.Call) (i : ℕ) → i ≤ from → (run first from page list i).taken ≡ 0
 unfolding run run_after counts
-taken_before first from page rows zero l = refl
-taken_before first from page rows (suc i) l = rw (lt-leb from i (omega arith)) (taken_before first from page rows i (omega arith))
+taken_before first from page list zero l = refl
+taken_before first from page list (suc i) l = rw (lt-leb from i (omega arith)) (taken_before first from page list i (omega arith))
 
 -- a function of the run that is the same for every run of no call
 grown_by : {A : Type 0} (f : ℕ → List Event → A) → ((es ds : List Event) → f 0 es ≡ f 0 ds) → (first : State) (h : List Call) (c : Call) (inside b : Bool) (n : ℕ)

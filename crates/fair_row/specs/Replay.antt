@@ -1,8 +1,7 @@
--- A list of calls written as rows of words, and what running it leaves. Definitions only.
-use Rattle.std.specs.Prelude.{ℕ, zero, suc, ◌+◌, ◌^◌, ◌%◌, ◌≡◌, Bool, true, false, cond, ◌&&◌, List, [], ◌∷◌, eqb, leb, ltb, length, get_or, replicate, Float, Result, Ok, Err}
+-- A list of calls, as the program is given it, and what running it leaves. Definitions only.
+use Rattle.std.specs.Prelude.{ℕ, zero, suc, ◌+◌, ◌^◌, ◌%◌, ◌≡◌, Bool, true, false, cond, ◌&&◌, List, [], ◌∷◌, eqb, leb, ltb, length, get_or, slice_index_or, replicate, Float, Result, Ok, Err}
 use Rattle.flow.specs.Flow.{dims, upto}
 use Rattle.sender.specs.declared.Unit as unit
-use Rattle.sender.specs.declared.Words.{Words}
 use Rattle.sender.specs.Sender as sender
 use Rattle.store.specs.Store as store
 use Rattle.wants.specs.Wants as wants
@@ -11,13 +10,18 @@ use Rattle.head.specs.declared.Shedder.{Shedder}
 use Rattle.verdict.specs.declared.Verdict.{Verdict}
 use Rattle.verdict.specs.declared.Verdict.TheVariants as verdict
 use Rattle.head.specs.declared.Refusal.{Refusal}
-use Rattle.codes.specs.Numbers.{cause_of, dim_of}
+use Rattle.head.specs.declared.Cause.{Cause}
+use Rattle.head.specs.declared.Cause.TheVariants as cause
 use Rattle.report.specs.Report as reports
 use Rattle.judge.specs.Judging as judging
 use Rattle.head.specs.Bits.{SameButNanBits}
 use Rattle.fair.specs.Calls as calls
 use Rattle.fair.specs.Calls.{State, Call, Event, Key, Judge, Cut, Read, Reading, Report, ReportBeside, Count, Visited, Level, Rate, IsBounded, by}
 use Rattle.fair.specs.Runs.{sum}
+use Rattle.fair_row.specs.declared.Call as given
+use Rattle.fair_row.specs.declared.Call.TheVariants as call
+use Rattle.fair_row.specs.declared.Reading as asked
+use Rattle.fair_row.specs.declared.Reading.TheVariants as reading
 use Rattle.fair_row.specs.declared.Turned.{Turned}
 
 -- ---- head and memory, as the program holds them
@@ -27,32 +31,21 @@ held_with g h tags units uses counted = calls.state_of h (judging.memory (store.
 abbrev pub held : Shedder → List ℕ → List (List ℕ) → List (List Float) → List (List ℕ) → List (List Float) → List (List ℕ) → State
 held h tags units uses counts sums counted = held_with (wants.hist counts sums) h tags units uses counted
 
--- ---- rows
--- a row: which call, the unit's five words, a stamp, a cause or a dimension, and the cost in each dimension
-unfoldable pub words_in : List ℕ → Words
-words_in row = record { kind = get_or row 1 0; a = get_or row 2 0; b = get_or row 3 0; c = get_or row 4 0; d = get_or row 5 0 }
+-- ---- the program's calls
+-- as those of the theorem, which hold a report's buffer: `page` is that buffer as the call gets it
+unfoldable pub reading_of : asked.Reading → List ℕ → Reading
+reading_of reading.Report page = Report page
+reading_of reading.ReportBeside page = ReportBeside page
+reading_of (reading.Count c) page = Count c
+reading_of reading.Visited page = Visited
+reading_of (reading.Level d) page = Level d
+reading_of (reading.Rate d) page = Rate d
+reading_of reading.IsBounded page = IsBounded
 
-unfoldable pub cost_in : List ℕ → List ℕ
-cost_in row = upto (λ (d : ℕ). get_or row (7 + d) 0) dims (replicate dims 0)
-
-unfoldable pub judge_in : List ℕ → Call
-judge_in row = Judge (sender.unit_of (words_in row)) (cost_in row) (get_or row 6 0)
-
-unfoldable pub cut_in : List ℕ → Call
-cut_in row = Cut (sender.unit_of (words_in row)) (cause_of (get_or row 6 0)) (cost_in row)
-
--- what is read of the head alone, by the row's first word and its stamp, cause or dimension: 4 the batches cut for a cause, 5 the tables visited, 6 a level, 7 a rate, anything else whether the relay is bounded
-unfoldable pub head_reading : ℕ → ℕ → Reading
-head_reading which n =
-    cond (eqb which 4) (Count (cause_of n)) (cond (eqb which 5) Visited (cond (eqb which 6) (Level (dim_of n)) (cond (eqb which 7) (Rate (dim_of n)) IsBounded)))
-
--- 2 is a report into the buffer, 3 the call beside it
-unfoldable pub reading_in : List ℕ → List ℕ → Reading
-reading_in row page = cond (eqb (get_or row 0 0) 2) (Report page) (cond (eqb (get_or row 0 0) 3) (ReportBeside page) (head_reading (get_or row 0 0) (get_or row 6 0)))
-
--- 0 is a judgement, 1 a cut, anything else a reading; `page` is the report's buffer as the call gets it
-unfoldable pub call_in : List ℕ → List ℕ → Call
-call_in row page = cond (eqb (get_or row 0 0) 0) (judge_in row) (cond (eqb (get_or row 0 0) 1) (cut_in row) (Read (reading_in row page)))
+unfoldable pub call_of : given.Call → List ℕ → Call
+call_of (call.Judge u cost t) page = Judge u cost t
+call_of (call.Cut u c cost) page = Cut u c cost
+call_of (call.Read q) page = Read (reading_of q page)
 
 -- ---- the buffer
 -- a report leaves what its definition says, any other call leaves the buffer as it was
@@ -80,25 +73,29 @@ pub record Run : Type 0 where
   pub page : List ℕ
   pub taken : ℕ
 
--- a call is one of the run where its row is, and where it was not refused by number
+-- a call is one of the run where its place is, and where it was not refused by number
 unfoldable pub counts : Bool → ℕ → Bool
 counts inside number = inside && eqb number 0
 
--- the run begins at row `from`
+-- what is read behind the end of a list: no run goes there
+abbrev pub behind : given.Call
+behind = call.Read reading.IsBounded
+
+-- the run begins at call `from`
 module _ (first : State) (from : ℕ) where
-  -- the call of row i gets the state that the calls before left, and the buffer as they left it
-  unfoldable pub run_after : Run → ℕ → List ℕ → Run
-  run_after r i row =
+  -- call i gets the state that the calls before left, and the buffer as they left it
+  unfoldable pub run_after : Run → ℕ → given.Call → Run
+  run_after r i c =
       record {
-        list = call_in row r.page ∷ r.list;
-        page = page_after (calls.state first r.list) (call_in row r.page) r.page;
-        taken = cond (counts (leb from i) (calls.number (calls.state first r.list) (call_in row r.page))) (suc r.taken) r.taken;
+        list = call_of c r.page ∷ r.list;
+        page = page_after (calls.state first r.list) (call_of c r.page) r.page;
+        taken = cond (counts (leb from i) (calls.number (calls.state first r.list) (call_of c r.page))) (suc r.taken) r.taken;
       }
 
-  -- the first n rows
-  unfoldable pub run : List ℕ → List (List ℕ) → ℕ → Run
-  run page rows zero = record { list = []; page = page; taken = 0 }
-  run page rows (suc n) = run_after (run page rows n) n (get_or rows n [])
+  -- the first n calls
+  unfoldable pub run : List ℕ → List given.Call → ℕ → Run
+  run page list zero = record { list = []; page = page; taken = 0 }
+  run page list (suc n) = run_after (run page list n) n (slice_index_or list n behind)
 
 -- ---- the totals
 unfoldable pub is_admitted : Result Verdict Refusal → Bool
@@ -112,6 +109,12 @@ is_over_share (Ok verdict.Admitted) = false
 is_over_share (Ok verdict.OverShare) = true
 is_over_share (Ok verdict.RelayRate) = false
 is_over_share (Err r) = false
+
+-- the cost of a cut for the receiver's ceiling is handed back
+unfoldable pub is_hand_back : Cause → Bool
+is_hand_back cause.ReceiverCeiling = true
+is_hand_back cause.OverShare = false
+is_hand_back cause.RelayRate = false
 
 -- the cost, or nothing
 unfoldable pub counted_if : Bool → List ℕ → List ℕ
@@ -157,8 +160,12 @@ own_used tags units tracked room u =
 unfoldable pub on_watched : List ℕ → List (List ℕ) → ℕ → ℕ → unit.Unit → unit.Unit → Bool
 on_watched tags units tracked room watched u = calls.same_key (key_of watched) (calls.key_at (own_used tags units tracked room u) u)
 
--- ---- one row
--- what the program has after a row whose call is c: head and memory t, the number of its refusal, and what it amounts to; of a refused call what it amounts to on the watched record is left open, since nothing counts it
+-- ---- one call
+-- of a call that amounts to nothing
+abbrev pub empty : Shedder → ℕ → Turned
+empty h n = record { head = h; number = n; admitted = replicate dims 0; admitted_on = replicate dims 0; handed = replicate dims 0; over_share = false }
+
+-- what the program has after the call c: head and memory t, the number of its refusal, and what it amounts to; of a refused call what it amounts to on the watched record is left open, since nothing counts it
 pub record Turns (watched : unit.Unit) (s : State) (c : Call) (r : Turned) (t : State) : Type 0 where
   pub left : SameButNanBits t (calls.step s c)
   pub number : r.number ≡ calls.number s c

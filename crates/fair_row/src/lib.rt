@@ -1,27 +1,54 @@
-// A row of words as a call, run through the real calls: what it leaves, and what it amounts to.
+// A call as a value, run through the real calls: what it leaves, and what it amounts to.
 #![tactic(auto)]
 
 mod own;
 mod read;
-mod rows;
 
 ghost use Rattle.std.specs.Prelude.{◌≡◌};
-ghost use Rattle.sender.specs.declared.Unit as unit;
+ghost use Rattle.sender.specs.declared.Unit as sent;
 ghost use Rattle.wants.specs.Wants.{Hist};
-ghost use Rattle.judge.specs.Judging.{Memory};
 ghost use Rattle.fair.specs.Calls as calls;
 ghost use Rattle.fair_row.specs.Replay as replay;
 
-use codes::{answer_number, cause_of};
-use flow::DIMS;
-use head::{Refusal, Shedder};
+use codes::answer_number;
+use flow::{DIMS, Dim};
+use head::{Cause, Refusal, Shedder};
 use own::on_watched;
-use read::read_row;
-use rows::{cost_in, words_in};
+use read::answer_reading;
 use sender::Unit;
 use store::{Records, SourceRow, UnitRow, UseRow};
 use verdict::Verdict;
 use wants::{Counts, Sums};
+
+// A call that only reads.
+#[derive(Clone, Copy)]
+pub enum Reading {
+    // A report into the lent buffer, and the call beside it.
+    Report,
+    ReportBeside,
+    // The batches cut for a cause, the tables visited, a level, a rate, whether the relay is bounded.
+    Count(Cause),
+    Visited,
+    Level(Dim),
+    Rate(Dim),
+    IsBounded,
+}
+
+// What may be called of a shedder.
+#[derive(Clone, Copy)]
+pub enum Call {
+    Judge {
+        unit: Unit,
+        cost: [u64; DIMS],
+        stamp: u64,
+    },
+    Cut {
+        unit: Unit,
+        cause: Cause,
+        cost: [u64; DIMS],
+    },
+    Read(Reading),
+}
 
 #[tactic(auto, unfolding(crate::specs::Replay::is_admitted))]
 fn is_admitted(answer: Result<Verdict, Refusal>) -> bool
@@ -37,14 +64,19 @@ fn is_over_share(answer: Result<Verdict, Refusal>) -> bool
     matches!(answer, Ok(Verdict::OverShare))
 }
 
+#[tactic(auto, unfolding(crate::specs::Replay::is_hand_back))]
+fn is_hand_back(cause: Cause) -> bool
+    ensures { result ≡ replay.is_hand_back cause }
+{
+    matches!(cause, Cause::ReceiverCeiling)
+}
+
 // The cost, or nothing.
+#[tactic(auto, unfolding(crate::specs::Replay::counted_if))]
 fn counted_if(on: bool, cost: [u64; DIMS]) -> [u64; DIMS]
     ensures { result ≡ replay.counted_if on cost }
 {
-    if on {
-        return cost;
-    }
-    [0u64; DIMS]
+    if on { cost } else { [0; DIMS] }
 }
 
 // What a call leaves, the number of its refusal (0 for none), what it admits, what of that on the watched record, what it hands back, and whether it is a judgement answered over share.
@@ -58,7 +90,23 @@ pub struct Turned {
     pub over_share: bool,
 }
 
-fn judge_row(
+impl Turned {
+    // A call that amounts to nothing.
+    fn empty(head: Shedder, number: u64) -> Turned
+        ensures { result ≡ replay.empty head number }
+    {
+        Turned {
+            head,
+            number,
+            admitted: [0; DIMS],
+            admitted_on: [0; DIMS],
+            handed: [0; DIMS],
+            over_share: false,
+        }
+    }
+}
+
+fn judge_turn(
     head: Shedder,
     tags: &mut [u16],
     units: &mut [UnitRow],
@@ -67,16 +115,15 @@ fn judge_row(
     sums: &mut Sums,
     counted: &mut [SourceRow],
     watched: Unit,
-    row: [u64; 7 + DIMS],
+    unit: Unit,
+    cost: [u64; DIMS],
+    stamp: u64,
 ) -> Turned
     ensures { replay.Turns watched
         (replay.held head tags.old units.old uses.old counts.old sums.old counted.old)
-        (replay.judge_in row) result
+        (calls.Judge unit cost stamp) result
         (replay.held result.head tags.new units.new uses.new counts.new sums.new counted.new) }
 {
-    let unit = sender::unit_of(words_in(row));
-    let cost = cost_in(row);
-    let stamp = row[6];
     let records = Records {
         tags: &mut *tags,
         units: &mut *units,
@@ -86,73 +133,41 @@ fn judge_row(
     let judged = judge::judge(
         head, tags, units, uses, counts, sums, counted, unit, cost, stamp,
     );
-    let left = judged.head;
-    let number = answer_number(judged.answer);
-    let goes = is_admitted(judged.answer);
-    let admitted = counted_if(goes, cost);
+    let admitted = counted_if(is_admitted(judged.answer), cost);
     let admitted_on = counted_if(mine, admitted);
-    let handed = [0u64; DIMS];
     let over_share = is_over_share(judged.answer);
+    let none = Turned::empty(judged.head, answer_number(judged.answer));
     Turned {
-        head: left,
-        number,
         admitted,
         admitted_on,
-        handed,
         over_share,
+        ..none
     }
 }
 
-fn cut_row(
+fn cut_turn(
     head: Shedder,
     tags: &mut [u16],
     units: &mut [UnitRow],
     uses: &mut [UseRow],
     counted: &mut [SourceRow],
-    row: [u64; 7 + DIMS],
+    unit: Unit,
+    cause: Cause,
+    cost: [u64; DIMS],
 ) -> Turned
-    ensures { (watched : unit.Unit) (g : Hist) → replay.Turns watched
+    ensures { (watched : sent.Unit) (g : Hist) → replay.Turns watched
         (replay.held_with g head tags.old units.old uses.old counted.old)
-        (replay.cut_in row) result
+        (calls.Cut unit cause cost) result
         (replay.held_with g result.head tags.new units.new uses.new counted.new) }
 {
-    let unit = sender::unit_of(words_in(row));
-    let cost = cost_in(row);
-    let cause = cause_of(row[6]);
     let cut = cut::cut(head, tags, units, uses, counted, unit, cause, cost);
-    let left = cut.head;
-    let number = answer_number(cut.answer);
-    let place = head::index_of(cause);
-    let handed = counted_if(place == 0, cost);
-    let none = [0u64; DIMS];
-    Turned {
-        head: left,
-        number,
-        admitted: none,
-        admitted_on: none,
-        handed,
-        over_share: false,
-    }
+    let handed = counted_if(is_hand_back(cause), cost);
+    let none = Turned::empty(cut.head, answer_number(cut.answer));
+    Turned { handed, ..none }
 }
 
-// A reading leaves the head as it was and amounts to nothing.
-fn turned_by_reading(head: Shedder, number: u64) -> Turned
-    ensures head_value { result.head ≡ head }
-    ensures turns { (watched : unit.Unit) (m : Memory) (q : calls.Reading) → number ≡ calls.read_number (calls.state_of head m) q
-        → replay.Turns watched (calls.state_of head m) (calls.Read q) result (calls.state_of result.head m) }
-{
-    let none = [0u64; DIMS];
-    Turned {
-        head,
-        number,
-        admitted: none,
-        admitted_on: none,
-        handed: none,
-        over_share: false,
-    }
-}
-
-// One row.
+// One call; out is the buffer of a report.
+#[tactic(auto, unfolding(crate::specs::Replay::call_of))]
 pub fn turn(
     head: Shedder,
     tags: &mut [u16],
@@ -162,24 +177,27 @@ pub fn turn(
     sums: &mut Sums,
     counted: &mut [SourceRow],
     watched: Unit,
-    row: [u64; 7 + DIMS],
+    call: Call,
     out: &mut [u8],
 ) -> Turned
     ensures turns { replay.Turns watched
         (replay.held head tags.old units.old uses.old counts.old sums.old counted.old)
-        (replay.call_in row out.old) result
+        (replay.call_of call out.old) result
         (replay.held result.head tags.new units.new uses.new counts.new sums.new counted.new) }
     ensures out_after { out.new ≡ replay.page_after
         (replay.held head tags.old units.old uses.old counts.old sums.old counted.old)
-        (replay.call_in row out.old) out.old }
+        (replay.call_of call out.old) out.old }
 {
-    let which = row[0];
-    if which == 0 {
-        return judge_row(head, tags, units, uses, counts, sums, counted, watched, row);
+    match call {
+        Call::Judge { unit, cost, stamp } => judge_turn(
+            head, tags, units, uses, counts, sums, counted, watched, unit, cost, stamp,
+        ),
+        Call::Cut { unit, cause, cost } => {
+            cut_turn(head, tags, units, uses, counted, unit, cause, cost)
+        }
+        Call::Read(reading) => {
+            let number = answer_reading(head, tags, units, uses, counted, reading, out);
+            Turned::empty(head, number)
+        }
     }
-    if which == 1 {
-        return cut_row(head, tags, units, uses, counted, row);
-    }
-    let number = read_row(head, tags, units, uses, counted, row, out);
-    turned_by_reading(head, number)
 }

@@ -1,30 +1,17 @@
-// A row that only reads: the number of its refusal, and what it leaves in the report's buffer.
+// A call that only reads: the number of its refusal, and what it leaves in the report's buffer.
 ghost use Rattle.std.specs.Prelude.{◌≡◌};
 ghost use Rattle.wants.specs.Wants.{Hist};
-ghost use Rattle.judge.specs.Judging.{Memory};
 ghost use Rattle.fair.specs.Calls as calls;
 ghost use Rattle.fair_row.specs.Replay as replay;
 
-use codes::{answer_number, cause_of, dim_of};
-use flow::DIMS;
+use crate::Reading;
+use codes::answer_number;
 use head::Shedder;
 use store::{SourceRow, UnitRow, UseRow};
+use text::Page;
 
 // The longest buffer that is written through `report`: the trial's.
 const PAGE: usize = 4096;
-
-// A reading of the head alone.
-fn head_read(head: Shedder, which: u64, n: u64) -> u64
-    ensures { (m : Memory) → result ≡ calls.read_number (calls.state_of head m) (replay.head_reading which n) }
-{
-    match which {
-        4 => answer_number(head_readings::cut_batches(head, cause_of(n))),
-        5 => answer_number(head_readings::visited(head)),
-        6 => answer_number(head_readings::level(head, dim_of(n))),
-        7 => answer_number(head_readings::rate(head, dim_of(n))),
-        _ => answer_number(head_readings::is_bounded(head)),
-    }
-}
 
 // A report into out; the answer is the number of its refusal. A buffer that `report` is lent goes into its result, and has no
 // value after it: so it gets one of its own, as long as out, and its part is put into out. A longer buffer than PAGE is
@@ -49,35 +36,40 @@ fn put_report(
         let refusal = report::report_refusal(head, tags, units, uses, counted, out);
         let mut own = [0u8; PAGE];
         let part = report::report(head, tags, units, uses, counted, &mut own[..room]);
-        text::put(out, 0, part);
+        let mut page = Page::at_front(out);
+        page.put(part);
         return answer_number(refusal);
     }
     answer_number(report::write_report(head, tags, units, uses, counted, out))
 }
 
 // A report into out, the call beside it, or a reading of the head.
-pub fn read_row(
+#[tactic(auto, unfolding(crate::specs::Replay::reading_of))]
+pub fn answer_reading(
     head: Shedder,
     tags: &[u16],
     units: &[UnitRow],
     uses: &[UseRow],
     counted: &[SourceRow],
-    row: [u64; 7 + DIMS],
+    reading: Reading,
     out: &mut [u8],
 ) -> u64
     ensures value { (g : Hist) → result ≡ calls.read_number
         (replay.held_with g head tags.now units.now uses.now counted.now)
-        (replay.reading_in row out.old) }
+        (replay.reading_of reading out.old) }
     ensures out_after { (g : Hist) → out.new ≡ replay.read_page
         (replay.held_with g head tags.now units.now uses.now counted.now)
-        (replay.reading_in row out.old) out.old }
+        (replay.reading_of reading out.old) out.old }
 {
-    let which = row[0];
-    if which == 2 {
-        return put_report(head, tags, units, uses, counted, out);
+    match reading {
+        Reading::Report => put_report(head, tags, units, uses, counted, out),
+        Reading::ReportBeside => {
+            answer_number(report::report_refusal(head, tags, units, uses, counted, out))
+        }
+        Reading::Count(cause) => answer_number(head_readings::cut_batches(head, cause)),
+        Reading::Visited => answer_number(head_readings::visited(head)),
+        Reading::Level(dim) => answer_number(head_readings::level(head, dim)),
+        Reading::Rate(dim) => answer_number(head_readings::rate(head, dim)),
+        Reading::IsBounded => answer_number(head_readings::is_bounded(head)),
     }
-    if which == 3 {
-        return answer_number(report::report_refusal(head, tags, units, uses, counted, out));
-    }
-    head_read(head, which, row[6])
 }

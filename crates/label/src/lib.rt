@@ -4,6 +4,7 @@
 ghost use Rattle.std.specs.Prelude.{◌≡◌, ◌≤◌, length, take};
 ghost use Rattle.io.specs.Counts.{IsPrefixLen};
 ghost use Rattle.text.specs.Page.{page, placed, write};
+ghost use Rattle.text.specs.Pages.{seen};
 ghost use Rattle.text.specs.Order.{less as before};
 ghost use Rattle.label.specs.Label.{label, key_label, v4_label, v6_label};
 
@@ -56,6 +57,14 @@ fn v6_text(prefix: u32, out: &mut [u8; LABEL_MOST]) -> usize
     text.at
 }
 
+fn plain_text(name: &[u8], out: &mut [u8; LABEL_MOST]) -> usize
+    ensures { page out.new result ≡ write (page out.old 0) name.now }
+{
+    let mut text = Page::at_front(out);
+    text.put(name);
+    text.at
+}
+
 #[tactic(auto, unfolding(crate::specs::Label::label))]
 fn put_at_front(unit: Unit, out: &mut [u8; LABEL_MOST]) -> usize
     ensures { page out.new result ≡ write (page out.old 0) (label unit) }
@@ -64,8 +73,8 @@ fn put_at_front(unit: Unit, out: &mut [u8; LABEL_MOST]) -> usize
         Unit::Corroborated(key) => key_text(key, out),
         Unit::Group(Group::V4(prefix)) => v4_text(prefix, out),
         Unit::Group(Group::V6(prefix)) => v6_text(prefix, out),
-        Unit::NoAddress => text::put(out, 0, b"no-address"),
-        Unit::Overflow => text::put(out, 0, b"overflow"),
+        Unit::NoAddress => plain_text(b"no-address", out),
+        Unit::Overflow => plain_text(b"overflow", out),
     }
 }
 
@@ -111,12 +120,12 @@ impl Label {
     }
 }
 
-// Puts the label of unit into out from the place at on, as text::put does: answers the place behind
-// it, and at itself where it does not fit, with nothing written. No label is empty.
-pub fn write_label(unit: Unit, out: &mut [u8], at: usize) -> usize
-    ensures { page out.new result ≡ write (page out.old at) (label unit) }
+// Puts the label of unit into out. No label is empty.
+pub fn write_label(unit: Unit, out: &mut Page<'_>)
+    ensures same_reference { out.new.out.ghost_name ≡ out.old.out.ghost_name }
+    ensures value { seen out.new ≡ write (seen out.old) (label unit) }
 {
-    text::put(out, at, Label::of(unit).as_bytes())
+    out.put(Label::of(unit).as_bytes());
 }
 
 pub fn label_length(unit: Unit) -> usize

@@ -11,7 +11,7 @@ use Rattle.text.specs.Page.{joined}
 use Rattle.text.specs.Number.{decimal, hexadecimal, word}
 use Rattle.text.proofs.Numbers.{length_word}
 use Rattle.text.specs.Order.{same}
-use Rattle.text.proofs.Orders.{same_refl, same_eq}
+use Rattle.text.proofs.Orders.{same_is, same_refl, same_eq}
 use Rattle.sender.specs.declared.PublicKey.{PublicKey}
 use Rattle.sender.specs.declared.Group.TheVariants.{V4, V6}
 use Rattle.sender.specs.declared.Unit as unit
@@ -20,7 +20,6 @@ use Rattle.label_parse.specs.declared.Field.{Field}
 use Rattle.std.specs.Prelude.{Option, Some, None, is_some}
 use Rattle.std.specs.Bool.{then_some}
 use Rattle.std.specs.Cmp.Lexicographic.{pointwise}
-use Rattle.label_parse.proofs.Bytes.{equal_same}
 use Rattle.label.specs.Label.{label, key_label, v4_label, v6_label}
 use Rattle.label_parse.specs.Parse.{digit, field, word_at, key_of, v4_of, v6_of, unit_in, is_label, parse, KeyFits, InRange, Exact}
 use Rattle.label_parse.proofs.Reading.{field_digits, first_value, second_value}
@@ -129,7 +128,7 @@ pub found : (s : List ℕ) → parse s ≡ then_some (pointwise eqb (label (unit
 unfolding parse is_label
 found s =
     sym (some_if (same (label (unit_in s)) s) (unit_in s))
-    ∙ ap (λ (t : Bool). then_some t (unit_in s)) (sym (equal_same (label (unit_in s)) s))
+    ∙ ap (λ (t : Bool). then_some t (unit_in s)) (sym (same_is (label (unit_in s)) s))
 
 pub is_some_parse : (s : List ℕ) → is_some (parse s) ≡ is_label s
 unfolding parse

@@ -19,7 +19,7 @@ use Rattle.judge.specs.Judging.{Memory}
 use Rattle.cut.specs.Cutting as cutting
 use Rattle.meaning.specs.State.{Ruling, ask}
 use Rattle.meaning.specs.Page as page
-use Rattle.meaning.specs.Agrees.{of, judged, cut}
+use Rattle.meaning.specs.Agrees.{of, judged}
 use Rattle.meaning.proofs.Asked.{unbounded_is, stamp_is, costs_is, head_is, memory_is}
 use Rattle.meaning.proofs.Scanned.{scanned_is}
 use Rattle.meaning.proofs.Judged.{judged_is, ruled_is, passed, told_is, tallied, tally_of}

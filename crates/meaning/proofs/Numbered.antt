@@ -6,7 +6,7 @@ use Prim.Native.Nat.{ℕ}
 use lib.Dec.{eqb, leb}
 use lib.ListN.{length, drop}
 use borrow.Author.Tests.{eq-eqb}
-use Rattle.std.proofs.Common.{◌≤◌, leb-true, Option, Some, None, Result, Ok}
+use Rattle.std.proofs.Common.{◌≤◌, leb-true, Some, None, Ok}
 use Rattle.std.specs.Prelude.{⊤}
 use Rattle.ieee.proofs.Tests.{both_yes}
 use Rattle.verdict.specs.declared.Verdict.{Verdict}
@@ -15,7 +15,6 @@ use Rattle.head.specs.Answers.{refused, answer_number, start_number, judge_numbe
 use Rattle.head.proofs.Numbers.{refused_number}
 use Rattle.flow.specs.Flow.{dim_of}
 use Rattle.head.specs.Readings.{index_of}
-use Rattle.flow.specs.Flow.{numbers}
 use Rattle.judge.specs.Judging.{answer_of}
 use Rattle.report_lines.specs.Lines.{text}
 use Rattle.meaning.specs.State.{State, After, after, Shedder, Unit, Cause, Dim, Begin, Answer, Done, ask, ◌!◌, ◌#◌}

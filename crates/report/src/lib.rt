@@ -9,6 +9,7 @@ ghost use Rattle.report.specs.Report as reports;
 use head::{Refusal, Shedder};
 use report_lines::{TEXT_MOST, write_text};
 use store::{SourceRow, UnitRow, UseRow};
+use text::Page;
 
 // The bytes written.
 fn bytes(answer: Result<usize, Refusal>) -> usize
@@ -68,7 +69,8 @@ pub fn write_report(
         &mut own,
     );
     let n = bytes(w);
-    text::put(out, 0, &own[..n]);
+    let mut page = Page::at_front(out);
+    page.put(&own[..n]);
     w
 }
 

@@ -11,7 +11,7 @@ ghost use Rattle.text.specs.Pages.{seen};
 
 use flow::DIMS;
 use head::Shedder;
-use label::{LABEL_MOST, Label};
+use label::LABEL_MOST;
 use report_ranking::{SOURCES_REPORTED, first_after, unit_at};
 use store::{CAUSES, SourceRow};
 use text::Page;
@@ -96,7 +96,7 @@ fn put_source(out: &mut Page<'_>, counted: &[SourceRow], i: usize)
     let counts = cut_sources::counts_at(counted, i);
     out.put(b"source");
     out.put(b" ");
-    out.put(Label::of(unit_at(counted, i)).as_bytes());
+    label::write_label(unit_at(counted, i), out);
     put_numbers(out, &counts);
 }
 

@@ -1,6 +1,7 @@
 // Standard input cut into lines, and the answers written to standard output.
 use std::fmt;
 use std::io::Read;
+use text::Page;
 use trial::Trial;
 use trial_memory::Memory;
 use trial_script::{FEED, LINE, front};
@@ -29,30 +30,30 @@ impl fmt::Display for Stop {
 
 // The trial and its memory; the line that is being read, and how many bytes of it are kept; the answers not yet written.
 #[derive(Drop)]
-struct Session {
+struct Session<'a> {
     trial: Trial,
     memory: Memory,
     line: [u8; LINE],
     len: usize,
-    page: [u8; BLOCK],
+    page: Page<'a>,
 }
 
-impl Session {
-    fn new() -> Session {
+impl<'a> Session<'a> {
+    fn new(page: &'a mut [u8]) -> Session<'a> {
         Session {
             trial: trial::unstarted(),
             memory: Memory::zeroed(),
             line: [0; LINE],
             len: 0,
-            page: [0; BLOCK],
+            page: Page::at_front(page),
         }
     }
 
     // Writes the answers that stand on the page, and empties it.
     fn write(&mut self, rt: &impl Print) -> Result<(), Stop> {
-        let n = self.trial.at;
-        self.trial.at = 0;
-        if rt.write_all(front(&self.page, n)).is_err() {
+        let n = self.page.at;
+        self.page.at = 0;
+        if rt.write_all(front(self.page.out, n)).is_err() {
             return Err(Stop::OutputFails);
         }
         Ok(())
@@ -75,7 +76,7 @@ impl Session {
             &mut self.page,
         );
         self.len = 0;
-        if self.trial.at < FULL {
+        if self.page.at < FULL {
             return Ok(());
         }
         self.write(rt)
@@ -106,7 +107,8 @@ impl Session {
 
 // Nothing says that an input ends, so the reads are counted up to a number that no run reaches.
 fn serve_all(rt: &impl Print, reader: &mut impl Read) -> Result<(), Stop> {
-    let mut session = Session::new();
+    let mut page = [0; BLOCK];
+    let mut session = Session::new(&mut page);
     let mut input = [0; BLOCK];
     for _ in 0..u64::MAX {
         let Ok(n) = reader.read(&mut input) else {

@@ -1,4 +1,5 @@
-// A lent buffer and the place where the next text goes. A text that does not fit from there on is not written at all.
+// A lent buffer and the place where the next text goes. A text that does not fit from there on is not written at all: the buffer
+// keeps its bytes, and the place stays.
 ghost use Rattle.std.specs.Prelude.{◌≡◌};
 ghost use Rattle.text.specs.Page.{page, write};
 ghost use Rattle.text.specs.Pages.{seen};
@@ -18,34 +19,51 @@ impl<'a> Page<'a> {
         Page { out, at: 0 }
     }
 
+    // Puts the bytes of text from the place on.
+    #[tactic(auto, using(crate::proofs::Writing::refused))]
     pub fn put(&mut self, text: &[u8])
         ensures same_reference { self.new.out.ghost_name ≡ self.old.out.ghost_name }
         ensures value { seen self.new ≡ write (seen self.old) text.now }
     {
-        self.at = super::put(self.out, self.at, text);
+        let end = self.at.saturating_add(text.len());
+        if self.out.len() < end {
+            return;
+        }
+        self.out[self.at..end].copy_from_slice(text);
+        self.at = end;
     }
 
     // n in decimal, with no zero in front.
+    #[tactic(auto, using(crate::proofs::Numbers::fewest_decimal))]
     pub fn put_decimal(&mut self, n: u64)
         ensures same_reference { self.new.out.ghost_name ≡ self.old.out.ghost_name }
         ensures value { seen self.new ≡ write (seen self.old) (number.decimal n) }
     {
-        self.at = super::put_decimal(self.out, self.at, n);
+        let mut decimal = [0u8; 20];
+        let k = io::decimal(n, &mut decimal);
+        self.put(&decimal[..k]);
     }
 
-    // n in lowercase hexadecimal, with no zero in front.
+    // n in lowercase hexadecimal, with no zero in front. One function with put_word, over the count of digits, would have a clause
+    // for each of the two definitions, and be no plainer.
+    #[tactic(auto, using(crate::proofs::Numbers::fewest_hexadecimal))]
     pub fn put_hexadecimal(&mut self, n: u64)
         ensures same_reference { self.new.out.ghost_name ≡ self.old.out.ghost_name }
         ensures value { seen self.new ≡ write (seen self.old) (number.hexadecimal n) }
     {
-        self.at = super::put_hexadecimal(self.out, self.at, n);
+        let mut hexadecimal = [0u8; 16];
+        let k = io::hex(n, 1, &mut hexadecimal);
+        self.put(&hexadecimal[..k]);
     }
 
     // All sixteen hexadecimal digits of n.
+    #[tactic(auto, using(crate::proofs::Numbers::fewest_word))]
     pub fn put_word(&mut self, n: u64)
         ensures same_reference { self.new.out.ghost_name ≡ self.old.out.ghost_name }
         ensures value { seen self.new ≡ write (seen self.old) (number.word n) }
     {
-        self.at = super::put_word(self.out, self.at, n);
+        let mut word = [0u8; 16];
+        let k = io::hex(n, 16, &mut word);
+        self.put(&word[..k]);
     }
 }

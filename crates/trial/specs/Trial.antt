@@ -3,7 +3,7 @@ use Rattle.std.specs.Prelude.{ℕ, Bool, true, false, cond, Option, Some, None, 
 use Rattle.ieee.specs.Doubles.{nothing}
 use Rattle.flow.specs.Flow.{dims, zeros, added}
 use Rattle.store.specs.Store.{«CAUSES»}
-use Rattle.text.specs.Page.{Page, page, write}
+use Rattle.text.specs.Page.{Page, write}
 use Rattle.head.specs.declared.Shedder.{Shedder}
 use Rattle.head.specs.declared.Refusal.{Refusal}
 use Rattle.judge.specs.Judging.{Memory, memory}
@@ -28,8 +28,8 @@ pub record State : Type 0 where
   pub memory : Memory
   pub page : Page
 
-abbrev pub state : trial.Trial → Memory → List ℕ → State
-state t m out = record { head = t.head; started = t.is_started; memory = m; page = page out t.at }
+abbrev pub state : trial.Trial → Memory → Page → State
+state t m p = record { head = t.head; started = t.is_started; memory = m; page = p }
 
 -- before any start: a head of zeros, which question 3 refuses
 abbrev pub no_head : Shedder
@@ -63,7 +63,7 @@ no_head = record {
 }
 
 abbrev pub unstarted : trial.Trial
-unstarted = record { head = no_head; is_started = false; at = 0 }
+unstarted = record { head = no_head; is_started = false }
 
 -- a number for each dimension
 abbrev pub of_dims : Amounts → List ℕ

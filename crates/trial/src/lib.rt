@@ -6,11 +6,13 @@ ghost use Rattle.store.specs.Store.{rows};
 ghost use Rattle.wants.specs.Wants.{Hist, hist};
 ghost use Rattle.head.specs.Bits.{SameButNanBits};
 ghost use Rattle.judge.specs.Judging.{Memory, memory};
+ghost use Rattle.text.specs.Pages.{seen};
 ghost use Rattle.trial.specs.Trial as trial;
 
 use flow::{Bucket, DIMS, Use};
 use head::{CAUSES, Flow, Refusal, Scan, Shedder};
 use store::{SourceRow, UnitRow, UseRow};
+use text::Page;
 use trial_script::{CutLine, JudgeLine, LINE_MOST, Line, StartLine};
 use wants::{Counts, Sums};
 
@@ -26,12 +28,11 @@ pub const REPORT: usize = 4096;
 // The number of a line that has no form, or stands before any start that was taken.
 const NO_FORM: u64 = 8;
 
-// The shedder and whether it was started; `at` is the place behind the last answer.
+// The shedder and whether it was started.
 #[derive(Clone, Copy)]
 pub struct Trial {
     pub head: Shedder,
     pub is_started: bool,
-    pub at: usize,
 }
 
 // Whether a shedder is there after a start: the new one, or the one that was.
@@ -89,16 +90,14 @@ pub fn unstarted() -> Trial
     Trial {
         head,
         is_started: false,
-        at: 0,
     }
 }
 
-fn refused(mut t: Trial, out: &mut [u8], n: u64) -> Trial
-    ensures { (m : Memory) → trial.state result m out.new
-        ≡ trial.refused (trial.state t m out.old) n }
+fn refused(t: Trial, page: &mut Page<'_>, n: u64) -> Trial
+    ensures same_reference { page.new.out.ghost_name ≡ page.old.out.ghost_name }
+    ensures value { (m : Memory) → trial.state result m (seen page.new) ≡ trial.refused (trial.state t m (seen page.old)) n }
 {
-    let at = t.at;
-    t.at = trial_script::put_refused(out, at, n);
+    trial_script::put_refused(page, n);
     t
 }
 
@@ -111,12 +110,13 @@ fn start(
     sums: &mut Sums,
     counted: &[SourceRow],
     l: StartLine,
-    out: &mut [u8],
+    page: &mut Page<'_>,
 ) -> Trial
-    ensures { trial.state result
-        (memory (rows tags.now units.now uses.now) (hist counts.new sums.new) counted.now) out.new
+    ensures same_reference { page.new.out.ghost_name ≡ page.old.out.ghost_name }
+    ensures value { trial.state result
+        (memory (rows tags.now units.now uses.now) (hist counts.new sums.new) counted.now) (seen page.new)
         ≡ trial.start
-        (trial.state t (memory (rows tags.now units.now uses.now) (hist counts.old sums.old) counted.now) out.old) l }
+        (trial.state t (memory (rows tags.now units.now uses.now) (hist counts.old sums.old) counted.now) (seen page.old)) l }
 {
     let s = head::start(
         t.head,
@@ -129,11 +129,10 @@ fn start(
         l.rate.into(),
         l.ceiling.into(),
     );
-    let at = trial_script::put_begin(out, t.at, s.answer);
+    trial_script::put_begin(page, s.answer);
     Trial {
         head: s.head,
         is_started: has_begun(t.is_started, s.answer),
-        at,
     }
 }
 
@@ -146,14 +145,15 @@ fn judge(
     sums: &mut Sums,
     counted: &mut [SourceRow],
     l: JudgeLine,
-    out: &mut [u8],
+    page: &mut Page<'_>,
 ) -> Trial
-    ensures { trial.state result (memory (rows tags.new units.new uses.new) (hist counts.new sums.new) counted.new) out.new
+    ensures same_reference { page.new.out.ghost_name ≡ page.old.out.ghost_name }
+    ensures value { trial.state result (memory (rows tags.new units.new uses.new) (hist counts.new sums.new) counted.new) (seen page.new)
         ≡ trial.judge
-        (trial.state t (memory (rows tags.old units.old uses.old) (hist counts.old sums.old) counted.old) out.old) l }
+        (trial.state t (memory (rows tags.old units.old uses.old) (hist counts.old sums.old) counted.old) (seen page.old)) l }
 {
     if !t.is_started {
-        return refused(t, out, NO_FORM);
+        return refused(t, page, NO_FORM);
     }
     let j = judge::judge(
         t.head,
@@ -167,11 +167,10 @@ fn judge(
         l.cost.into(),
         l.stamp,
     );
-    let at = trial_script::put_answer(out, t.at, j.answer);
+    trial_script::put_answer(page, j.answer);
     Trial {
         head: j.head,
         is_started: true,
-        at,
     }
 }
 
@@ -182,13 +181,14 @@ fn cut(
     uses: &mut [UseRow],
     counted: &mut [SourceRow],
     l: CutLine,
-    out: &mut [u8],
+    page: &mut Page<'_>,
 ) -> Trial
-    ensures { (g : Hist) → trial.state result (memory (rows tags.new units.new uses.new) g counted.new) out.new
-        ≡ trial.cut (trial.state t (memory (rows tags.old units.old uses.old) g counted.old) out.old) l }
+    ensures same_reference { page.new.out.ghost_name ≡ page.old.out.ghost_name }
+    ensures value { (g : Hist) → trial.state result (memory (rows tags.new units.new uses.new) g counted.new) (seen page.new)
+        ≡ trial.cut (trial.state t (memory (rows tags.old units.old uses.old) g counted.old) (seen page.old)) l }
 {
     if !t.is_started {
-        return refused(t, out, NO_FORM);
+        return refused(t, page, NO_FORM);
     }
     let c = cut::cut(
         t.head,
@@ -200,38 +200,38 @@ fn cut(
         l.cause,
         l.cost.into(),
     );
-    let at = trial_script::put_done(out, t.at, c.answer);
+    trial_script::put_done(page, c.answer);
     Trial {
         head: c.head,
         is_started: true,
-        at,
     }
 }
 
 fn report(
-    mut t: Trial,
+    t: Trial,
     tags: &[u16],
     units: &[UnitRow],
     uses: &[UseRow],
     counted: &[SourceRow],
-    out: &mut [u8],
+    page: &mut Page<'_>,
 ) -> Trial
-    ensures { (g : Hist) → trial.state result (memory (rows tags.now units.now uses.now) g counted.now) out.new
-        ≡ trial.report (trial.state t (memory (rows tags.now units.now uses.now) g counted.now) out.old) }
+    ensures same_reference { page.new.out.ghost_name ≡ page.old.out.ghost_name }
+    ensures value { (g : Hist) → trial.state result (memory (rows tags.now units.now uses.now) g counted.now) (seen page.new)
+        ≡ trial.report (trial.state t (memory (rows tags.now units.now uses.now) g counted.now) (seen page.old)) }
 {
     if !t.is_started {
-        return refused(t, out, NO_FORM);
+        return refused(t, page, NO_FORM);
     }
     let mut own = [0u8; REPORT];
     if let Err(refusal) = report::report_refusal(t.head, tags, units, uses, counted, &own) {
-        return refused(t, out, u64::from(refusal));
+        return refused(t, page, u64::from(refusal));
     }
     let front = report::report(t.head, tags, units, uses, counted, &mut own);
-    t.at = text::put(out, t.at, front);
+    page.put(front);
     t
 }
 
-// Answers one line: the text goes to out from the place t.at on.
+// Answers one line: the text goes to the page.
 pub fn answer(
     t: Trial,
     tags: &mut [u16],
@@ -241,22 +241,23 @@ pub fn answer(
     sums: &mut Sums,
     counted: &mut [SourceRow],
     line: &[u8],
-    out: &mut [u8],
+    page: &mut Page<'_>,
 ) -> Trial
-    ensures { SameButNanBits
-        (trial.state result (memory (rows tags.new units.new uses.new) (hist counts.new sums.new) counted.new) out.new)
+    ensures same_reference { page.new.out.ghost_name ≡ page.old.out.ghost_name }
+    ensures value { SameButNanBits
+        (trial.state result (memory (rows tags.new units.new uses.new) (hist counts.new sums.new) counted.new) (seen page.new))
         (trial.answer
-        (trial.state t (memory (rows tags.old units.old uses.old) (hist counts.old sums.old) counted.old) out.old)
+        (trial.state t (memory (rows tags.old units.old uses.old) (hist counts.old sums.old) counted.old) (seen page.old))
         line.now) }
 {
     if line.len() > LINE_MOST {
-        return refused(t, out, NO_FORM);
+        return refused(t, page, NO_FORM);
     }
     match trial_script::read_line(line) {
-        Some(Line::Start(s)) => start(t, tags, units, uses, counts, sums, counted, s, out),
-        Some(Line::Judge(j)) => judge(t, tags, units, uses, counts, sums, counted, j, out),
-        Some(Line::Cut(c)) => cut(t, tags, units, uses, counted, c, out),
-        Some(Line::Report) => report(t, tags, units, uses, counted, out),
-        None => refused(t, out, NO_FORM),
+        Some(Line::Start(s)) => start(t, tags, units, uses, counts, sums, counted, s, page),
+        Some(Line::Judge(j)) => judge(t, tags, units, uses, counts, sums, counted, j, page),
+        Some(Line::Cut(c)) => cut(t, tags, units, uses, counted, c, page),
+        Some(Line::Report) => report(t, tags, units, uses, counted, page),
+        None => refused(t, page, NO_FORM),
     }
 }

@@ -12,7 +12,7 @@ use Rattle.std.specs.List.{fold, position, position_or_len}
 use Rattle.std.proofs.lemmas.List.{take_more_set, length-set}
 use Rattle.std.proofs.lemmas.List.Recursion.{is_position_or_len}
 use Rattle.std.specs.Cmp.Lexicographic.{pointwise}
-use Rattle.label_parse.proofs.Bytes.{equal_same}
+use Rattle.text.proofs.Orders.{same_is}
 use Rattle.text.specs.Number.{decimal}
 use lib.ListN.{set, length, take, drop, length-drop, drop_of_length-le}
 use lib.Seq.{take_all}
@@ -78,7 +78,7 @@ number_fold s = sym (read_fold 0 s)
 -- a number is the text that it prints
 pub number_is : (s : List ℕ) → is_number s ≡ pointwise eqb (decimal (number_in s)) s
 unfolding is_number
-number_is s = sym (equal_same (decimal (number_in s)) s)
+number_is s = sym (same_is (decimal (number_in s)) s)
 
 -- a digit more
 pub grown_fits : (n x d : ℕ) → d ≡ x - 48 → n * 10 + d < 18446744073709551616 → n * 10 + d ≡ grown n x

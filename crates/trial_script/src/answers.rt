@@ -1,11 +1,12 @@
-// An answer as text, put into a lent buffer as text::put does: the answer is the place behind it,
-// and the place itself where it does not fit, with nothing written.
+// An answer as text, put into a page.
 ghost use Rattle.std.specs.Prelude.{◌≡◌, take};
 ghost use Rattle.io.specs.Counts.{IsPrefixLen};
-ghost use Rattle.text.specs.Page.{page, write};
+ghost use Rattle.text.specs.Page.{write};
+ghost use Rattle.text.specs.Pages.{seen};
 ghost use Rattle.trial_script.specs.Answers as answers;
 
 use head::Refusal;
+use text::Page;
 use verdict::Verdict;
 
 // Room for `refused `, a number and a line feed.
@@ -16,47 +17,54 @@ fn refused_text(n: u64, out: &mut [u8; REFUSED_MOST]) -> usize
     ensures prefix_len { IsPrefixLen result out.new }
     ensures out_after { take result out.new ≡ answers.refused_text n }
 {
-    let word = text::put(out, 0, b"refused ");
-    let number = text::put_decimal(out, word, n);
-    text::put(out, number, b"\n")
+    let mut text = Page::at_front(out);
+    text.put(b"refused ");
+    text.put_decimal(n);
+    text.put(b"\n");
+    text.at
 }
 
-pub fn put_refused(out: &mut [u8], at: usize, n: u64) -> usize
-    ensures { page out.new result ≡ write (page out.old at) (answers.refused_text n) }
+// From a buffer of its own, so that a refusal is written whole or not at all.
+pub fn put_refused(page: &mut Page<'_>, n: u64)
+    ensures same_reference { page.new.out.ghost_name ≡ page.old.out.ghost_name }
+    ensures value { seen page.new ≡ write (seen page.old) (answers.refused_text n) }
 {
     let mut own = [0u8; REFUSED_MOST];
     let k = refused_text(n, &mut own);
-    text::put(out, at, &own[..k])
+    page.put(&own[..k]);
 }
 
 #[tactic(auto, unfolding(crate::specs::Answers::begin_text))]
-pub fn put_begin(out: &mut [u8], at: usize, answer: Result<(), Refusal>) -> usize
-    ensures { page out.new result ≡ write (page out.old at) (answers.begin_text answer) }
+pub fn put_begin(page: &mut Page<'_>, answer: Result<(), Refusal>)
+    ensures same_reference { page.new.out.ghost_name ≡ page.old.out.ghost_name }
+    ensures value { seen page.new ≡ write (seen page.old) (answers.begin_text answer) }
 {
     match answer {
-        Ok(()) => text::put(out, at, b"started\n"),
-        Err(refusal) => put_refused(out, at, refusal.into()),
+        Ok(()) => page.put(b"started\n"),
+        Err(refusal) => put_refused(page, refusal.into()),
     }
 }
 
 #[tactic(auto, unfolding(crate::specs::Answers::answer_text))]
-pub fn put_answer(out: &mut [u8], at: usize, answer: Result<Verdict, Refusal>) -> usize
-    ensures { page out.new result ≡ write (page out.old at) (answers.answer_text answer) }
+pub fn put_answer(page: &mut Page<'_>, answer: Result<Verdict, Refusal>)
+    ensures same_reference { page.new.out.ghost_name ≡ page.old.out.ghost_name }
+    ensures value { seen page.new ≡ write (seen page.old) (answers.answer_text answer) }
 {
     match answer {
-        Ok(Verdict::Admitted) => text::put(out, at, b"ok\n"),
-        Ok(Verdict::OverShare) => text::put(out, at, b"over-share\n"),
-        Ok(Verdict::RelayRate) => text::put(out, at, b"relay-rate\n"),
-        Err(refusal) => put_refused(out, at, refusal.into()),
+        Ok(Verdict::Admitted) => page.put(b"ok\n"),
+        Ok(Verdict::OverShare) => page.put(b"over-share\n"),
+        Ok(Verdict::RelayRate) => page.put(b"relay-rate\n"),
+        Err(refusal) => put_refused(page, refusal.into()),
     }
 }
 
 #[tactic(auto, unfolding(crate::specs::Answers::done_text))]
-pub fn put_done(out: &mut [u8], at: usize, answer: Result<(), Refusal>) -> usize
-    ensures { page out.new result ≡ write (page out.old at) (answers.done_text answer) }
+pub fn put_done(page: &mut Page<'_>, answer: Result<(), Refusal>)
+    ensures same_reference { page.new.out.ghost_name ≡ page.old.out.ghost_name }
+    ensures value { seen page.new ≡ write (seen page.old) (answers.done_text answer) }
 {
     match answer {
-        Ok(()) => text::put(out, at, b"counted\n"),
-        Err(refusal) => put_refused(out, at, refusal.into()),
+        Ok(()) => page.put(b"counted\n"),
+        Err(refusal) => put_refused(page, refusal.into()),
     }
 }

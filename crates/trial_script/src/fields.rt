@@ -4,6 +4,8 @@ ghost use Rattle.io.specs.Counts.{IsPrefixLen};
 ghost use Rattle.text.specs.Number.{decimal};
 ghost use Rattle.trial_script.specs.Fields as fields;
 
+use text::Page;
+
 // The longest decimal of a u64.
 const DIGITS: usize = 20;
 
@@ -65,7 +67,9 @@ fn decimal_text(n: u64, out: &mut [u8; DIGITS]) -> usize
     ensures prefix_len { IsPrefixLen result out.new }
     ensures out_after { take result out.new ≡ decimal n }
 {
-    text::put_decimal(out, 0, n)
+    let mut text = Page::at_front(out);
+    text.put_decimal(n);
+    text.at
 }
 
 // The number whose decimal s is.

@@ -64,16 +64,16 @@ pub enum Line {
 }
 
 // The cause that s names.
-#[tactic(auto, unfolding(crate::specs::Script::is_cause, crate::specs::Script::cause_in, crate::specs::Script::cause_name))]
+#[tactic(auto, using(text::proofs::Orders::same_is), unfolding(crate::specs::Script::is_cause, crate::specs::Script::cause_in, crate::specs::Script::cause_name))]
 fn cause_in(s: &[u8]) -> Option<Cause>
     ensures { MatchOption result (script.is_cause s.now ≡ false) (λ cause. (script.is_cause s.now ≡ true) × (cause ≡ script.cause_in s.now)) }
 {
     // A `match` on the three texts is tried byte by byte, in thirty-eight cases, and the proof does not close.
-    if text::same(s, b"receiver-ceiling") {
+    if s == b"receiver-ceiling".as_slice() {
         Some(Cause::ReceiverCeiling)
-    } else if text::same(s, b"over-share") {
+    } else if s == b"over-share".as_slice() {
         Some(Cause::OverShare)
-    } else if text::same(s, b"relay-rate") {
+    } else if s == b"relay-rate".as_slice() {
         Some(Cause::RelayRate)
     } else {
         None
@@ -121,13 +121,13 @@ fn cut_in(s: &[u8]) -> Option<Line>
 }
 
 // The call that the line s is.
-#[tactic(auto, using(crate::proofs::Taking::exactly, crate::proofs::Taking::one_byte), unfolding(crate::specs::Script::line))]
+#[tactic(auto, using(crate::proofs::Taking::exactly, crate::proofs::Taking::one_byte, text::proofs::Orders::same_is), unfolding(crate::specs::Script::line))]
 pub fn read_line(s: &[u8]) -> Option<Line>
     ensures value { result ≡ script.line s.now }
     ensures exact { script.Exact s.now result }
 {
     // What a `match` on s finds is lost to the proof at the next call.
-    if text::same(s, b"P") {
+    if s == b"P".as_slice() {
         return Some(Line::Report);
     }
     let (kind, behind) = split(s);

@@ -6,27 +6,28 @@ use Rattle.head.proofs.Numbers.{number_some, answered_none}
 use borrow.Author.Tests.{not-true, not-false}
 use Rattle.store.specs.Store.{rows}
 use Rattle.judge.specs.Judging.{memory}
+use Rattle.text.specs.Pages.{seen}
 use Rattle.trial.specs.Trial.{state}
 use Rattle.trial.proofs.Steps.{report_unstarted, report_refused, report_step}
 use Rattle.trial.proofs.report.Goals as goal
 
-pub returns-then-not-t : goal.returns-then-not-t
-returns-then-not-t c =
-    λ g. report_unstarted (state c.args.t (memory (rows c.args.tags.now c.args.units.now c.args.uses.now) g c.args.counted.now) c.args.out.now) _
+pub returns-then-not-t-clause-value : goal.returns-then-not-t-clause-value
+returns-then-not-t-clause-value c =
+    λ g. report_unstarted (state c.args.t (memory (rows c.args.tags.now c.args.units.now c.args.uses.now) g c.args.counted.now) (seen c.args.page.now)) _
     (not-true c.args.t.is_started c.if-not-t.true)
-    (c.refused.ensures (memory (rows c.args.tags.now c.args.units.now c.args.uses.now) g c.args.counted.now))
+    (c.refused.ensures.value (memory (rows c.args.tags.now c.args.units.now c.args.uses.now) g c.args.counted.now))
 
-pub returns-in-Err : goal.returns-in-Err
+pub returns-in-Err-clause-value : goal.returns-in-Err-clause-value
 unfolding answer_number
-returns-in-Err c =
-    λ g. report_refused (state c.args.t (memory (rows c.args.tags.now c.args.units.now c.args.uses.now) g c.args.counted.now) c.args.out.now) _ c.from.result _
+returns-in-Err-clause-value c =
+    λ g. report_refused (state c.args.t (memory (rows c.args.tags.now c.args.units.now c.args.uses.now) g c.args.counted.now) (seen c.args.page.now)) _ c.from.result _
     (not-false c.args.t.is_started c.if-not-t.false) (c.from.ensures ∙ ap answer_number (sym c.in-Err.is) ∙ c.report_refusal.ensures)
     (search rules) (λ z. absurd (omega (arith, number_some c.in-Err.refusal, c.from.ensures, z)))
-    (c.refused-in-Err.ensures (memory (rows c.args.tags.now c.args.units.now c.args.uses.now) g c.args.counted.now))
+    (c.refused-in-Err.ensures.value (memory (rows c.args.tags.now c.args.units.now c.args.uses.now) g c.args.counted.now))
 
-pub returns : goal.returns
-returns c =
-    λ g. report_step (state c.args.t (memory (rows c.args.tags.now c.args.units.now c.args.uses.now) g c.args.counted.now) c.args.out.now) _ _ _ _ _
+pub returns-clause-value : goal.returns-clause-value
+returns-clause-value c =
+    λ g. report_step (state c.args.t (memory (rows c.args.tags.now c.args.units.now c.args.uses.now) g c.args.counted.now) (seen c.args.page.now)) _ _ _ _ _
     (not-false c.args.t.is_started c.if-not-t.false) c.report_refusal.ensures
     (search rules) (search rules) (answered_none c.report_refusal.result _ _ c.in_default.is refl)
-    c.report-front.ensures c.put.ensures
+    c.report-front.ensures c.put.ensures.value

@@ -1,0 +1,8 @@
+use Rattle.std.proofs.Common.{arith}
+use Rattle.fair_row.proofs.Amounts.{cut_turns}
+use Rattle.fair_row.proofs.cut_turn.Goals as goal
+
+pub returns : goal.returns
+returns c =
+    rw c.empty-none.ensures
+    (cut_turns c.args.head _ _ _ _ c.args.cost c.cut-cut.result _ _ c.is_hand_back.result _ _ (omega arith) c.cut-cut.ensures.same_but_nan_bits c.answer_number.ensures c.is_hand_back.ensures c.counted_if-handed.ensures)
