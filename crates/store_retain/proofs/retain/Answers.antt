@@ -1,5 +1,5 @@
 -- `store_retain::retain` meets its contract. Assumes nothing.
-use Rattle.std.proofs.Common.{◌≡◌, refl, sym, ap, ◌∙◌, arith, rules}
+use Rattle.std.proofs.Common.{◌≡◌, sym, ap, ◌∙◌, arith, rules}
 use Rattle.store.specs.Held.{held}
 use Rattle.store_retain.specs.Retain.{Kept, retain_one}
 use Rattle.store_retain.proofs.Steps.{retained_still, retained_next}
