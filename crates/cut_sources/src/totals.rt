@@ -48,6 +48,7 @@ pub fn keep_from(counted: &[SourceRow], n: usize) -> u64
     }
     let mut low = 0;
     let mut high = highest(counted, n);
+    // A `while`: a turn halves the span between two values and steps through no slice.
     while low < high {
         let tried = high - (high - low) / 2;
         if below(counted, n, tried) <= n / 4 {

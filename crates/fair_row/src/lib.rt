@@ -79,7 +79,7 @@ fn counted_if(on: bool, cost: [u64; DIMS]) -> [u64; DIMS]
     if on { cost } else { [0; DIMS] }
 }
 
-// What a call leaves, the number of its refusal (0 for none), what it admits, what of that on the watched record, what it hands back, and whether it is a judgement answered over share.
+// What a call leaves, the number of its refusal (0 for none; a number, since the list of calls counts by it), what it admits, what of that on the watched record, what it hands back, and whether it is a judgement answered over share.
 #[derive(Clone, Copy)]
 pub struct Turned {
     pub head: Shedder,

@@ -93,6 +93,7 @@ fn walk<F: Fn(usize) -> bool>(
         ≡ walking.walk (held records.now) table at_ms result g }
 {
     let mut i = store_search::next_in(records.tags, from, n, table);
+    // A `while`: the next place is the search's, and the tags are read once.
     while i < n && !stops(i) {
         walk_one(records, counts, sums, i, table, at_ms);
         i = store_search::next_in(records.tags, i + 1, n, table);
@@ -268,7 +269,7 @@ fn is_running(h: &mut Shedder, counts: &mut Counts, sums: &mut Sums, clock: u64)
     true
 }
 
-// What a judgement does of a scan: it visits two tables. The head is lent to each step, so that none copies it.
+// What a judgement does of a scan: it visits two tables. The head is lent to each step but the last, so that they copy none.
 pub fn scanned(
     mut h: Shedder,
     records: &mut Records<'_>,

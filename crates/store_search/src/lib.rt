@@ -43,6 +43,7 @@ fn skip<const STEP: usize, F: Fn(u16) -> bool>(
     ensures none { passing.None (F.post passes) tags.now from result }
 {
     let mut i = from;
+    // A `while`: a stepped range asks for a proof that its end fits, and its last block may be short.
     while STEP <= n - i && !any_passes::<STEP, &F>(tags, i, &passes) {
         i += STEP;
     }
@@ -98,6 +99,7 @@ pub fn find_tagged<F: Fn(usize) -> bool>(tags: &[u16], n: usize, tag: u16, is_so
     ensures found { result < n → F.post is_sought result true }
 {
     let mut i = next_tagged(tags, 0, n, tag);
+    // A `while`: the next place is the search's.
     while i < n && !is_sought(i) {
         i = next_tagged(tags, i + 1, n, tag);
     }

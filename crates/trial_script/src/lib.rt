@@ -68,7 +68,7 @@ pub enum Line {
 fn cause_in(s: &[u8]) -> Option<Cause>
     ensures { MatchOption result (script.is_cause s.now ≡ false) (λ cause. (script.is_cause s.now ≡ true) × (cause ≡ script.cause_in s.now)) }
 {
-    // A `match` on the three texts is tried byte by byte, in thirty-eight cases, and the proof does not close.
+    // Not one `match` on the three texts: it compares them byte by byte, in more cases than the proof closes.
     if s == b"receiver-ceiling".as_slice() {
         Some(Cause::ReceiverCeiling)
     } else if s == b"over-share".as_slice() {
@@ -126,7 +126,6 @@ pub fn read_line(s: &[u8]) -> Option<Line>
     ensures value { result ≡ script.line s.now }
     ensures exact { script.Exact s.now result }
 {
-    // What a `match` on s finds is lost to the proof at the next call.
     if s == b"P".as_slice() {
         return Some(Line::Report);
     }
