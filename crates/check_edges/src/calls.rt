@@ -1,127 +1,48 @@
 // The call of a step, over the slices lent.
-use crate::lent::Lent;
 use check_steps::{Answer, Call, Step, Tried};
 use flow::DIMS;
 use head::{Cause, Shedder};
 use std::io;
+use store::Lent;
 use text::Page;
 use trial::Trial;
-use wants::BUCKETS;
+use wants::{BUCKETS, Histogram};
 
-fn start(step: &Step, head: Shedder, lent: Lent<'_>) -> Tried {
-    let Lent {
-        tags,
-        units,
-        uses,
-        counts,
-        sums,
-        counted,
-        ..
-    } = lent;
-    let s = head::start(
-        head,
-        tags,
-        units,
-        uses,
-        counts,
-        sums,
-        counted,
-        step.amounts,
-        [0; DIMS],
-    );
+fn start(step: &Step, head: Shedder, lent: &Lent<'_>, histogram: &mut Histogram<'_>) -> Tried {
+    let s = head::start(head, &lent.read(), histogram, step.amounts, [0; DIMS]);
     Tried::new(s.answer.map(|()| None), s.head)
 }
 
-fn judge(step: &Step, head: Shedder, lent: Lent<'_>) -> Tried {
-    let Lent {
-        tags,
-        units,
-        uses,
-        counts,
-        sums,
-        counted,
-        ..
-    } = lent;
-    let j = judge::judge(
-        head,
-        tags,
-        units,
-        uses,
-        counts,
-        sums,
-        counted,
-        step.unit,
-        step.amounts,
-        step.stamp,
-    );
+fn judge(step: &Step, head: Shedder, lent: &mut Lent<'_>, histogram: &mut Histogram<'_>) -> Tried {
+    let j = judge::judge(head, lent, histogram, step.unit, step.amounts, step.stamp);
     Tried::new(j.answer.map(Some), j.head)
 }
 
-fn cut(step: &Step, head: Shedder, lent: Lent<'_>) -> Tried {
-    let Lent {
-        tags,
-        units,
-        uses,
-        counted,
-        ..
-    } = lent;
-    let d = cut::cut(
-        head,
-        tags,
-        units,
-        uses,
-        counted,
-        step.unit,
-        Cause::ReceiverCeiling,
-        step.amounts,
-    );
+fn cut(step: &Step, head: Shedder, lent: &mut Lent<'_>) -> Tried {
+    let d = cut::cut(head, lent, step.unit, Cause::ReceiverCeiling, step.amounts);
     Tried::new(d.answer.map(|()| None), d.head)
 }
 
-fn refusal(head: Shedder, lent: &Lent<'_>) -> Answer {
-    report::report_refusal(
-        head,
-        lent.tags,
-        lent.units,
-        lent.uses,
-        lent.counted,
-        lent.out,
-    )
-    .map(|()| None)
+fn refusal(head: Shedder, lent: &Lent<'_>, out: &[u8]) -> Answer {
+    report::report_refusal(head, &lent.read(), out).map(|()| None)
 }
 
-// The report as the front part of the buffer. Its answer is that of the call beside it; a report that is refused has an
-// empty front part.
-fn report(rt: &impl Print, head: Shedder, lent: Lent<'_>) -> io::Result<Tried> {
-    let answer = refusal(head, &lent);
-    let Lent {
-        tags,
-        units,
-        uses,
-        counted,
-        out,
-        ..
-    } = lent;
-    let front = report::report(head, tags, units, uses, counted, out);
+// The report as the front part of the buffer. Its answer is that of the call beside it.
+fn report(rt: &impl Print, head: Shedder, lent: &Lent<'_>, out: &mut [u8]) -> io::Result<Tried> {
+    let answer = refusal(head, lent, out);
+    let front = report::report(head, &lent.read(), out);
     rt.write_all(front)?;
-    let at = front.len();
-    if at == 0 {
-        return Ok(Tried::new(answer, head));
-    }
-    Ok(written(Ok(None), head, at))
+    Ok(written(answer, head, front.len()))
 }
 
 // The report as the call under it writes it.
-fn write_report(rt: &impl Print, head: Shedder, lent: Lent<'_>) -> io::Result<Tried> {
-    let Lent {
-        tags,
-        units,
-        uses,
-        counted,
-        out,
-        ..
-    } = lent;
-    let bytes = report::write_report(head, tags, units, uses, counted, out);
+fn write_report(
+    rt: &impl Print,
+    head: Shedder,
+    lent: &Lent<'_>,
+    out: &mut [u8],
+) -> io::Result<Tried> {
+    let bytes = report::write_report(head, &lent.read(), out);
     let n = bytes.unwrap_or(0);
     rt.write_all(trial_script::front(out, n))?;
     Ok(written(bytes.map(|_| None), head, n))
@@ -140,20 +61,13 @@ fn line(
     line: &[u8],
     is_started: bool,
     head: Shedder,
-    lent: Lent<'_>,
+    lent: &mut Lent<'_>,
+    histogram: &mut Histogram<'_>,
+    out: &mut [u8],
 ) -> io::Result<Tried> {
-    let Lent {
-        tags,
-        units,
-        uses,
-        counts,
-        sums,
-        counted,
-        out,
-    } = lent;
     let t = Trial { head, is_started };
     let mut page = Page::at_front(out);
-    let a = trial::answer(t, tags, units, uses, counts, sums, counted, line, &mut page);
+    let a = trial::answer(t, lent, histogram, line, &mut page);
     let at = page.at;
     check_steps::line(rt, line, trial_script::front(page.out, at))?;
     let mut tried = written(Ok(None), a.head, at);
@@ -162,23 +76,30 @@ fn line(
 }
 
 // The call of a step.
-pub fn answered(rt: &impl Print, step: &Step, head: Shedder, lent: Lent<'_>) -> io::Result<Tried> {
+pub fn answered(
+    rt: &impl Print,
+    step: &Step,
+    head: Shedder,
+    lent: &mut Lent<'_>,
+    histogram: &mut Histogram<'_>,
+    out: &mut [u8],
+) -> io::Result<Tried> {
     match step.call {
-        Call::Start => Ok(start(step, head, lent)),
-        Call::Judge => Ok(judge(step, head, lent)),
+        Call::Start => Ok(start(step, head, lent, histogram)),
+        Call::Judge => Ok(judge(step, head, lent, histogram)),
         Call::Cut => Ok(cut(step, head, lent)),
-        Call::Report => report(rt, head, lent),
-        Call::WriteReport => write_report(rt, head, lent),
-        Call::ReportRefusal => Ok(Tried::new(refusal(head, &lent), head)),
+        Call::Report => report(rt, head, lent, out),
+        Call::WriteReport => write_report(rt, head, lent, out),
+        Call::ReportRefusal => Ok(Tried::new(refusal(head, lent, out), head)),
         Call::Reading(read) => Ok(Tried::new(check_steps::reading(read, head), head)),
         Call::Fill => {
-            *lent.counts = [[4; BUCKETS]; DIMS];
-            *lent.sums = [[0.5; BUCKETS]; DIMS];
+            *histogram.counts = [[4; BUCKETS]; DIMS];
+            *histogram.sums = [[0.5; BUCKETS]; DIMS];
             Ok(Tried::new(Ok(None), head))
         }
         Call::Line {
             line: text,
             is_started,
-        } => line(rt, text, is_started, head, lent),
+        } => line(rt, text, is_started, head, lent, histogram, out),
     }
 }

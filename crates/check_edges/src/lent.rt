@@ -3,20 +3,8 @@ use crate::calls;
 use check_steps::{Memory, OUT, Step, Tried};
 use head::Shedder;
 use std::io;
-use store::{SourceRow, UnitRow, UseRow};
-use wants::{Counts, Sums};
-
-// What a call is lent: the front of each part of the memory, and of the buffer.
-#[derive(Drop)]
-pub struct Lent<'a> {
-    pub tags: &'a mut [u16],
-    pub units: &'a mut [UnitRow],
-    pub uses: &'a mut [UseRow],
-    pub counts: &'a mut Counts,
-    pub sums: &'a mut Sums,
-    pub counted: &'a mut [SourceRow],
-    pub out: &'a mut [u8],
-}
+use store::Lent;
+use wants::Histogram;
 
 // The first n; all of them where there are fewer.
 fn first<T>(items: &mut [T], n: usize) -> &mut [T] {
@@ -33,16 +21,18 @@ pub fn tried(
 ) -> io::Result<Tried> {
     let was = *memory;
     let mut out = [b'.'; OUT];
-    let lent = Lent {
+    let mut lent = Lent {
         tags: first(&mut memory.tags, step.lent.tags),
         units: first(&mut memory.units, step.lent.units),
         uses: first(&mut memory.uses, step.lent.uses),
+        counted: first(&mut memory.counted, step.lent.counted),
+    };
+    let mut histogram = Histogram {
         counts: &mut memory.counts,
         sums: &mut memory.sums,
-        counted: first(&mut memory.counted, step.lent.counted),
-        out: first(&mut out, step.lent.out),
     };
-    let mut tried = calls::answered(rt, step, head, lent)?;
+    let page = first(&mut out, step.lent.out);
+    let mut tried = calls::answered(rt, step, head, &mut lent, &mut histogram, page)?;
     tried.unchanged = tried.unchanged
         && check_steps::is_as_before(memory, &was, &out, tried.at)
         && check_steps::same_head(&tried.head, &head);

@@ -5,12 +5,11 @@
 mod calls;
 mod lent;
 
-use check_steps::Memory;
 use std::io;
 
 fn main(rt: HostRuntime) -> io::Result<()> {
     check_steps::run(&rt)?;
-    let mut memory = Memory::new();
+    let mut memory = check_steps::filled();
     let mut head = trial::unstarted().head;
     for step in &check_steps::all_steps(rt.alloc())? {
         let tried = lent::tried(&rt, step, step.fault.made(head), &mut memory)?;

@@ -4,9 +4,11 @@ use fair_row::Call;
 use flow::DIMS;
 use sender::Unit;
 use std::io;
-use trial::REPORT;
+use store::{Lent, LentRead};
+use trial::{COUNTED, REPORT, TAGS, UNITS};
 use trial_memory::Memory;
 use trial_script::{StartLine, front};
+use wants::Histogram;
 
 fn say_amounts(rt: &impl Print, word: &str, [receptions, bytes]: [u64; DIMS]) -> io::Result<()> {
     println!(rt; "{word} {receptions} {bytes}")
@@ -33,9 +35,15 @@ fn written(page: &[u8]) -> &[u8] {
 }
 
 // The report of the state that a list left.
-fn say_state(rt: &impl Print, r: &Replayed, m: &Memory) -> io::Result<()> {
+fn say_state(rt: &impl Print, r: &Replayed, m: &Memory<TAGS, UNITS, COUNTED>) -> io::Result<()> {
     let mut own = [0; REPORT];
-    let text = report::report(r.head, &m.tags, &m.units, &m.uses, &m.counted, &mut own);
+    let rows = LentRead {
+        tags: &m.tags,
+        units: &m.units,
+        uses: &m.uses,
+        counted: &m.counted,
+    };
+    let text = report::report(r.head, &rows, &mut own);
     rt.println("state")?;
     rt.write_all(text)
 }
@@ -49,27 +57,29 @@ pub fn run(
     from: usize,
     to: usize,
 ) -> io::Result<()> {
-    let mut m = Memory::zeroed();
+    let mut m = Memory::<TAGS, UNITS, COUNTED>::zeroed();
     let mut page = [0; REPORT];
+    let mut lent = Lent {
+        tags: &mut m.tags,
+        units: &mut m.units,
+        uses: &mut m.uses,
+        counted: &mut m.counted,
+    };
+    let mut histogram = Histogram {
+        counts: &mut m.counts,
+        sums: &mut m.sums,
+    };
     let begun = head::start(
         trial::unstarted().head,
-        &m.tags,
-        &m.units,
-        &m.uses,
-        &mut m.counts,
-        &mut m.sums,
-        &m.counted,
+        &lent.read(),
+        &mut histogram,
         start.rate.into(),
         start.ceiling.into(),
     );
     let replayed = fair_replay::replay(
         begun.head,
-        &mut m.tags,
-        &mut m.units,
-        &mut m.uses,
-        &mut m.counts,
-        &mut m.sums,
-        &mut m.counted,
+        &mut lent,
+        &mut histogram,
         watched,
         list,
         from,

@@ -3,7 +3,7 @@
 // 11 bits.
 #![tactic(auto)]
 
-use sender::Words;
+use sender::{Unit, Words};
 use std::alloc::Global;
 use std::io::{self, BufRead, BufReader};
 
@@ -76,7 +76,7 @@ impl Listed {
 
     // Whether the unit has the table and the hash that the line says.
     fn agrees(&self) -> bool {
-        let unit = sender::unit_of(self.words);
+        let unit = Unit::from(self.words);
         sender::table_of(unit) as u64 == self.table && sender::hash_of(unit) >> 11 == self.hash
     }
 }

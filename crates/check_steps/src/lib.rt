@@ -15,10 +15,9 @@ pub use proved::run;
 pub use readers::reading;
 pub use same::{is_as_before, same_head};
 pub use steps::{Call, Read, Step, all_steps};
-use store::{SourceRow, UnitRow, UseRow};
 pub use tells::{line, tell};
 use verdict::Verdict;
-use wants::{BUCKETS, Counts, Sums};
+use wants::BUCKETS;
 
 // Unit records, counted records, the tags of both, and the bytes of the report's buffer.
 pub const UNITS: usize = 4;
@@ -30,27 +29,17 @@ pub const TAGS: usize = UNITS + COUNTED;
 pub const OUT: usize = 4096;
 
 // The shedder's memory.
-#[derive(Clone, Copy)]
-pub struct Memory {
-    pub tags: [u16; TAGS],
-    pub units: [UnitRow; UNITS],
-    pub uses: [UseRow; UNITS],
-    pub counts: Counts,
-    pub sums: Sums,
-    pub counted: [SourceRow; COUNTED],
-}
+pub type Memory = trial_memory::Memory<TAGS, UNITS, COUNTED>;
 
-impl Memory {
-    // No word of it is 0.
-    pub fn new() -> Memory {
-        Memory {
-            tags: [0x0101; TAGS],
-            units: [[0x0202020202020202; 7]; UNITS],
-            uses: [[0.3; 2 * DIMS]; UNITS],
-            counts: [[4; BUCKETS]; DIMS],
-            sums: [[0.5; BUCKETS]; DIMS],
-            counted: [[0x0606060606060606; 8]; COUNTED],
-        }
+// Memory of which no word is 0.
+pub fn filled() -> Memory {
+    Memory {
+        tags: [0x0101; TAGS],
+        units: [[0x0202020202020202; 7]; UNITS],
+        uses: [[0.3; 2 * DIMS]; UNITS],
+        counts: [[4; BUCKETS]; DIMS],
+        sums: [[0.5; BUCKETS]; DIMS],
+        counted: [[0x0606060606060606; 8]; COUNTED],
     }
 }
 

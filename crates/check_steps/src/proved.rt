@@ -4,11 +4,12 @@ ghost use Rattle.std.specs.Prelude.{◌<◌};
 ghost use Rattle.wants.specs.Wants as wants;
 
 use crate::says::Level;
+use cut_sources::Sources;
 use flow::{Bucket, DIMS, Use};
 use label::Label;
 use sender::{Group, Unit};
 use std::io;
-use wants::BUCKETS;
+use wants::{BUCKETS, Histogram};
 
 fn hashes(rt: &impl Print) -> io::Result<()> {
     for (byte, unit) in [(2, Unit::NoAddress), (3, Unit::Overflow)] {
@@ -39,10 +40,14 @@ fn level_of(dim: usize, of: &[f64]) -> Level
 {
     let mut counts = [[0; BUCKETS]; DIMS];
     let mut sums = [[0.0; BUCKETS]; DIMS];
+    let mut histogram = Histogram {
+        counts: &mut counts,
+        sums: &mut sums,
+    };
     for want in of {
-        wants::add(&mut counts, &mut sums, dim, *want);
+        histogram.add(dim, *want);
     }
-    Level(wants::level(&counts, &sums, dim, 10.0))
+    Level(histogram.level(dim, 10.0))
 }
 
 fn levels(rt: &impl Print) -> io::Result<()> {
@@ -70,7 +75,11 @@ fn pruned(rt: &impl Print, totals: [u64; 5]) -> io::Result<()> {
         source(5, e),
     ];
     let mut tags = [0; 5];
-    let n = cut_sources::pruned(&mut tags, &mut counted, 5);
+    let mut sources = Sources {
+        tags: &mut tags,
+        counted: &mut counted,
+    };
+    let n = sources.pruned(5);
     print!(rt; "totals {a}, {b}, {c}, {d}, {e}, {n} stay:")?;
     for i in 0..n {
         print!(rt; " {}", cut_sources::total_at(&counted, i))?;

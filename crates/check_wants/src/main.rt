@@ -8,7 +8,7 @@ ghost use Rattle.std.specs.Prelude.{◌<◌};
 use flow::DIMS;
 use std::alloc::Global;
 use std::io::{self, BufRead, BufReader};
-use wants::{BUCKETS, Counts, Sums};
+use wants::{BUCKETS, Counts, Histogram, Sums};
 
 // A line that has its form.
 #[derive(Drop)]
@@ -60,6 +60,7 @@ fn double_of(bits: u64) -> f64 {
     f64::NAN
 }
 
+// As in check_steps, which this program does not use: it is another program's list of steps.
 fn bits_of(x: f64) -> u64 {
     if x.is_nan() { NAN } else { x.to_bits() }
 }
@@ -115,6 +116,10 @@ impl Replay {
 
     // Whether the entry could be done, and agrees.
     fn done(&mut self, entry: Entry) -> bool {
+        let mut histogram = Histogram {
+            counts: &mut self.counts,
+            sums: &mut self.sums,
+        };
         match entry {
             Entry::Bucket { want, bucket } => {
                 let agrees = wants::bucket::bucket_of(want) as u64 == bucket;
@@ -122,11 +127,11 @@ impl Replay {
                 agrees
             }
             Entry::Clear => {
-                wants::clear(&mut self.counts, &mut self.sums);
+                histogram.clear();
                 true
             }
             Entry::Add { dim, want } if dim < DIMS => {
-                wants::add(&mut self.counts, &mut self.sums, dim, want);
+                histogram.add(dim, want);
                 true
             }
             Entry::Set {
@@ -135,12 +140,12 @@ impl Replay {
                 count,
                 sum,
             } if dim < DIMS && bucket < BUCKETS => {
-                self.counts[dim][bucket] = count;
-                self.sums[dim][bucket] = sum;
+                histogram.counts[dim][bucket] = count;
+                histogram.sums[dim][bucket] = sum;
                 true
             }
             Entry::Level { dim, rate, level } if dim < DIMS => {
-                let agrees = bits_of(wants::level(&self.counts, &self.sums, dim, rate)) == level;
+                let agrees = bits_of(histogram.level(dim, rate)) == level;
                 self.levels = self.levels.wrapping_add(u64::from(agrees));
                 agrees
             }

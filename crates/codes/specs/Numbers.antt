@@ -5,8 +5,8 @@ use Rattle.std.specs.Float.{binary64}
 use Rattle.std.specs.Float.Ieee.{of_bits}
 use Rattle.flow.specs.declared.Dim.{Dim}
 use Rattle.flow.specs.Flow.{«UNBOUNDED», dim_at}
-use Rattle.head.specs.declared.Cause.{Cause}
-use Rattle.head.specs.declared.Cause.TheVariants as cause
+use Rattle.store.specs.declared.Cause.{Cause}
+use Rattle.store.specs.declared.Cause.TheVariants as cause
 use Rattle.head.specs.declared.Refusal.{Refusal}
 use Rattle.head.specs.Answers.{number_of}
 use Rattle.codes.specs.declared.Count.{Count}

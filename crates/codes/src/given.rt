@@ -1,4 +1,4 @@
-// A cause and a dimension by number, in document 01's order.
+// A cause and a dimension by number, in document 01's order. Any number may come from C, and none is refused: so no `TryFrom`.
 ghost use Rattle.std.specs.Prelude.{◌≡◌};
 ghost use Rattle.codes.specs.Numbers as numbers;
 

@@ -41,7 +41,7 @@ pub struct Decision {
     pub part: f64,
 }
 
-// The codes of a decision: of the verdict, of the rule, of the dimension.
+// The codes of a decision: of the verdict, of the rule, of the dimension. They are numbers and no enum, since C reads them.
 pub const VERDICT_NONE: u64 = 0;
 
 pub const VERDICT_ADMITTED: u64 = 1;

@@ -10,8 +10,7 @@ use Rattle.sender.specs.declared.Unit.{Unit}
 use Rattle.store.specs.Store.{Rows, rows}
 use Rattle.head.specs.declared.Flow.{Flow}
 use Rattle.head.specs.declared.Shedder.{Shedder}
-use Rattle.store_entry.specs.declared.Place.{Place}
-use Rattle.store_entry.specs.Entering.{Entered, entered, entry, used_at, back, put_back, headed}
+use Rattle.store_entry.specs.Entering.{Place, Entered, entered, entry, used_at, back, put_back, headed}
 use Rattle.cut.specs.Cutting.{lowered, flowed_back, kept_by, handed_with, handed_at, handed_back}
 
 pub handed_is : (h : Shedder) (m : Rows) (u : Unit) (cost : List Float)

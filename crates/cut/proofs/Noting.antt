@@ -9,7 +9,7 @@ use Rattle.sender.specs.declared.Name.{Name}
 use Rattle.sender.specs.Sender.{name_of}
 use Rattle.store.specs.Store.{rows}
 use Rattle.head.specs.declared.Shedder.{Shedder}
-use Rattle.head.specs.declared.Cause.{Cause}
+use Rattle.store.specs.declared.Cause.{Cause}
 use Rattle.head.specs.Readings.{index_of}
 use Rattle.cut_counts.specs.Counting.{Tally, tally, tallied}
 use Rattle.cut.specs.declared.Cutting.{Cutting}

@@ -10,7 +10,7 @@ use Rattle.sender.specs.Sender as sender
 use Rattle.store.specs.Store.{Rows, rows}
 use Rattle.head.specs.declared.Flow.{Flow}
 use Rattle.head.specs.declared.Shedder.{Shedder}
-use Rattle.head.specs.declared.Cause.{Cause}
+use Rattle.store.specs.declared.Cause.{Cause}
 use Rattle.head.specs.declared.Refusal.{Refusal}
 use Rattle.head.specs.Answers.{refused}
 use Rattle.cut.specs.declared.Cutting.{Cutting}

@@ -2,9 +2,7 @@
 #![tactic(auto)]
 
 ghost use Rattle.std.specs.Prelude.{◌≡◌, ◌<◌, ◌≤◌, ◌+◌, length};
-ghost use Rattle.sender.specs.Sender as sender;
-ghost use Rattle.store.specs.Held.{held, SameSlices};
-ghost use Rattle.store.specs.Store as store;
+ghost use Rattle.store.specs.Held.{held, SameSlices, lent_rows, lent_sizes, of_sizes, SameLent};
 ghost use Rattle.head.specs.Answers as answers;
 ghost use Rattle.head.specs.Questions as asked;
 ghost use Rattle.head.specs.Bits.{SameButNanBits};
@@ -13,8 +11,8 @@ ghost use Rattle.cut.specs.Cutting as cutting;
 
 use flow::DIMS;
 use head::{Cause, Flow, Refusal, Shedder};
-use sender::{Name, Unit};
-use store::{Records, SourceRow, UnitRow, UseRow};
+use sender::{Name, Named, Unit};
+use store::{Lent, Records};
 
 // What a cut answers, and the head after it.
 #[derive(Clone, Copy)]
@@ -24,11 +22,11 @@ pub struct Cutting {
 }
 
 // A bounded relay hands back a cut for the receiver's ceiling.
-#[tactic(auto, unfolding(crate::specs::Cutting::hands_back))]
+#[tactic(auto, unfolding(crate::specs::Cutting::hands_back, store::specs::Causes::index_of))]
 fn hands_back(rate: [u64; DIMS], cause: Cause) -> bool
     ensures { result ≡ cutting.hands_back rate cause }
 {
-    !head::is_unbounded(rate) && head::index_of(cause) == 0
+    !head::is_unbounded(rate) && matches!(cause, Cause::ReceiverCeiling)
 }
 
 // What was admitted, less this cost, down to 0.
@@ -53,35 +51,18 @@ fn flowed_back(f: Flow, cost: [f64; DIMS]) -> Flow
 }
 
 // All of a batch is handed back.
-fn handed_back(
-    head: Shedder,
-    records: &mut Records<'_>,
-    unit: Unit,
-    name: Name,
-    i: usize,
-    cost: [f64; DIMS],
-) -> Shedder
+fn handed_back(head: Shedder, records: &mut Records<'_>, named: Named, cost: [f64; DIMS]) -> Shedder
     requires unit_room_in_bounds { head.unit_room ≤ length records.old.tags.now }
     requires units_len { length records.old.units.now ≡ head.unit_room }
     requires uses_len { length records.old.uses.now ≡ head.unit_room }
     requires tracked_bound { head.tracked ≤ head.unit_room }
-    requires name_value { name ≡ sender.name_of unit }
-    requires i_value { i ≡ store.find records.old.tags.now records.old.units.now name head.tracked }
     ensures uses_after { cutting.kept_by result (held records.new)
-        ≡ cutting.handed_back (cutting.kept_by head (held records.old)) unit cost }
+        ≡ cutting.handed_back (cutting.kept_by head (held records.old)) named.unit cost }
     ensures counted_value { result.counted ≡ head.counted }
     ensures unit_room_value { result.unit_room ≡ head.unit_room }
     ensures slices { SameSlices records.old records.new }
 {
-    let p = store_entry::entry(
-        records,
-        head.tracked,
-        head.unit_room,
-        unit,
-        name,
-        i,
-        head.flow.at_ms,
-    );
+    let p = store_entry::entry(records, head.tracked, named, head.flow.at_ms);
     let used = store_entry::used_at(records, head.overflow, p.at);
     let next = used.handed_back(cost);
     let overflow = store_entry::put_back(records, head.overflow, p.at, next);
@@ -95,20 +76,17 @@ fn handed_back(
 }
 
 // The cut is counted, and is then done.
-fn noted(
-    head: Shedder,
-    tags: &mut [u16],
-    counted: &mut [SourceRow],
-    name: Name,
-    cause: Cause,
-    cost: [u64; DIMS],
-) -> Cutting
-    requires counted_in_bounds { head.unit_room + head.counted < length tags.old }
-    requires counted_in_bounds_2 { head.counted < length counted.old }
-    ensures counted_after { cutting.noting result tags.new counted.new ≡ cutting.noted (counting.tally head tags.old counted.old) name cause cost }
+fn noted(head: Shedder, lent: &mut Lent<'_>, name: Name, cause: Cause, cost: [u64; DIMS]) -> Cutting
+    requires counted_in_bounds { head.unit_room + head.counted < length lent.old.tags.now }
+    requires counted_in_bounds_2 { head.counted < length lent.old.counted.now }
+    ensures counted_after { cutting.noting result lent.new.tags.now lent.new.counted.now
+        ≡ cutting.noted (counting.tally head lent.old.tags.now lent.old.counted.now) name cause cost }
+    ensures units_after { lent.new.units.now ≡ lent.old.units.now }
+    ensures uses_after { lent.new.uses.now ≡ lent.old.uses.now }
     ensures answer_value { answers.cut_number result.answer ≡ 0 }
+    ensures slices { SameLent lent.old lent.new }
 {
-    let t = cut_counts::tallied(head, tags, counted, name, head::index_of(cause), cost[0]);
+    let t = cut_counts::tallied(head, lent, name, cause, cost[0]);
     Cutting {
         answer: Ok(()),
         head: t,
@@ -118,39 +96,33 @@ fn noted(
 // A cut made elsewhere, counted with the rest; for the receiver's ceiling all of the batch is given back. A refusal changes nothing.
 pub fn cut(
     head: Shedder,
-    tags: &mut [u16],
-    units: &mut [UnitRow],
-    uses: &mut [UseRow],
-    counted: &mut [SourceRow],
+    lent: &mut Lent<'_>,
     unit: Unit,
     cause: Cause,
     cost: [u64; DIMS],
 ) -> Cutting
     ensures same_but_nan_bits { SameButNanBits
-        (cutting.cutting result (store.rows tags.new units.new uses.new) counted.new)
-        (cutting.cut head (store.rows tags.old units.old uses.old) counted.old unit cause cost) }
+        (cutting.cutting result (lent_rows lent.new) lent.new.counted.now)
+        (cutting.cut head (lent_rows lent.old) lent.old.counted.now unit cause cost) }
     ensures answer_value { answers.cut_number result.answer
-        ≡ asked.cut_asked head (length tags.old) (length units.old) (length uses.old) (length counted.old) cost }
+        ≡ of_sizes (asked.cut_asked head) (lent_sizes lent.old) cost }
+    ensures slices { SameLent lent.old lent.new }
 {
-    if let Err(refusal) = head::cut_asked(
-        head,
-        tags.len(),
-        units.len(),
-        uses.len(),
-        counted.len(),
-        cost,
-    ) {
+    if let Err(refusal) = head::cut_asked(head, lent.sizes(), cost) {
         return Cutting {
             answer: Err(refusal),
             head,
         };
     }
-    let name = sender::name_of(unit);
+    let named = Named::of(unit);
     if hands_back(head.flow.rate, cause) {
-        let mut records = Records { tags, units, uses };
-        let i = store_search::find(&records, head.tracked, name);
-        let h = handed_back(head, &mut records, unit, name, i, flow::numbers(cost));
-        return noted(h, records.tags, counted, name, cause, cost);
+        let mut records = Records {
+            tags: &mut *lent.tags,
+            units: &mut *lent.units,
+            uses: &mut *lent.uses,
+        };
+        let h = handed_back(head, &mut records, named, flow::numbers(cost));
+        return noted(h, lent, named.name, cause, cost);
     }
-    noted(head, tags, counted, name, cause, cost)
+    noted(head, lent, named.name, cause, cost)
 }

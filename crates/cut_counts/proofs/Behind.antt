@@ -1,5 +1,5 @@
--- The part of a list from a place on, lent to a call and put back, and then lent once more. Assumes nothing.
-use Rattle.std.proofs.Common.{◌≡◌, ℕ, ◌-◌, ◌≤◌, List, ◌++◌, length, take, drop, ap, ◌∙◌, append-nil, arith, length-append, length-drop, length-take-le, take_all, take_at, drop_at}
+-- The part of a list from a place on, lent to a call and put back. Assumes nothing.
+use Rattle.std.proofs.Common.{◌≡◌, ℕ, ◌-◌, ◌≤◌, List, ◌++◌, length, take, drop, ap, ◌∙◌, append-nil, arith, length-drop, take_all}
 use lib.Seq.{drop-length}
 use borrow.Rule.Slice.PartMut.{mid_of, put_mid, Post-is}
 
@@ -15,15 +15,3 @@ lent_is a xs h = take_all (length xs - a) (drop a xs) (omega (arith, length-drop
 
 pub put_is : (a : ℕ) (xs ys : List ℕ) → a ≤ length xs → put a xs ys ≡ take a xs ++ ys
 put_is a xs ys h = ap (λ (z : List ℕ). take a xs ++ (ys ++ z)) (Post-is a (length xs) xs h ∙ drop-length xs) ∙ ap (λ (z : List ℕ). take a xs ++ z) (append-nil ys)
-
-module _ (a : ℕ) (xs ys : List ℕ) (h : a ≤ length xs) where
-  long : a ≤ length (take a xs ++ ys)
-  long = omega (arith, length-append (take a xs) ys, length-take-le a xs h)
-
-  pub lent_again : lent a (put a xs ys) ≡ ys
-  lent_again = ap (lent a) (put_is a xs ys h) ∙ lent_is a (take a xs ++ ys) long ∙ drop_at (take a xs) ys a (length-take-le a xs h)
-
-  pub put_again : (zs : List ℕ) → put a (put a xs ys) zs ≡ take a xs ++ zs
-  put_again zs =
-      ap (λ (l : List ℕ). put a l zs) (put_is a xs ys h) ∙ put_is a (take a xs ++ ys) zs long
-      ∙ ap (λ (l : List ℕ). l ++ zs) (take_at (take a xs) ys a (length-take-le a xs h))

@@ -1,33 +1,31 @@
 -- A count from its parts: the code's results, each tied to its definition, make up the definition. Assumes nothing.
-use Rattle.std.proofs.Common.{◌≡◌, ℕ, ◌+◌, ◌<◌, ◌≤◌, List, ◌++◌, length, take, drop, ap, ◌∙◌, arith}
+use Rattle.std.proofs.Common.{◌≡◌, ℕ, ◌+◌, ◌<◌, ◌≤◌, List, ◌++◌, length, take, ap, ◌∙◌, arith}
 use Rattle.sender.specs.declared.Name.{Name}
 use Rattle.cut_sources.specs.Counted as counts
 use Rattle.head.specs.declared.Shedder.{Shedder}
-use Rattle.cut_counts.specs.Counting.{Sourced, sources, sourced, tally, tallied, tallied_by, added}
-use Rattle.cut_counts.proofs.Behind.{lent, put, lent_is, lent_again, put_again}
+use Rattle.cut_counts.specs.Counting.{Sourced, sources, sourced, sourced_with, tally, tallied, tallied_by, added}
+use Rattle.cut_counts.proofs.Behind.{lent, put, lent_is, put_is}
 
-whole : (room : ℕ) (tags t1 t2 t3 : List ℕ) (rows k1 k2 : List (List ℕ)) (had n1 n2 : ℕ) (name : Name) (cause : ℕ)
-    → counts.sources n1 k1 ≡ counts.count (drop room tags) rows had name cause → t1 ≡ counts.count_tags (drop room tags) rows had name
-    → counts.sources n2 k2 ≡ counts.pruned (counts.sources n1 k1) → t2 ≡ counts.pruned_tags (counts.sources n1 k1) t1 → t3 ≡ take room tags ++ t2
-    → sources n2 t3 k2 ≡ sourced room tags rows had name cause
-whole room tags t1 t2 t3 rows k1 k2 had n1 n2 name cause e1 e2 e3 e4 e5 =
-    let own : List ℕ = drop room tags in
-    let front : List ℕ = take room tags in
-    let s : counts.Sources = counts.count own rows had name cause in
-    let t : List ℕ = counts.pruned_tags s (counts.count_tags own rows had name) in
-    ap (λ (t : List ℕ). sources n2 t k2) (e5 ∙ ap (λ (z : List ℕ). front ++ z) (e4 ∙ ap (λ (s : counts.Sources). counts.pruned_tags s t1) e1 ∙ ap (counts.pruned_tags s) e2))
-    ∙ ap (λ (p : counts.Sources). sources p.count (front ++ t) p.rows) (e3 ∙ ap counts.pruned e1)
+-- the least counted left out of what a cut more leaves
+pub pruned_so : (k1 k2 : List (List ℕ)) (n1 n2 : ℕ) (s : counts.Sources) → counts.sources n1 k1 ≡ s → counts.sources n2 k2 ≡ counts.pruned (counts.sources n1 k1) → counts.sources n2 k2 ≡ counts.pruned s
+pruned_so k1 k2 n1 n2 s e f = f ∙ ap counts.pruned e
 
--- with the sources' tags lent to each of the two calls
-pub sourced_is : (room : ℕ) (tags t1 t2 : List ℕ) (rows k1 k2 : List (List ℕ)) (had n1 n2 : ℕ) (name : Name) (cause : ℕ) → room + had < length tags
-    → counts.sources n1 k1 ≡ counts.count (lent room tags) rows had name cause → t1 ≡ counts.count_tags (lent room tags) rows had name
-    → counts.sources n2 k2 ≡ counts.pruned (counts.sources n1 k1) → t2 ≡ counts.pruned_tags (counts.sources n1 k1) (lent room (put room tags t1))
-    → sources n2 (put room (put room tags t1) t2) k2 ≡ sourced room tags rows had name cause
-sourced_is room tags t1 t2 rows k1 k2 had n1 n2 name cause f e1 e2 e3 e4 =
+pub pruned_tags_so : (t1 t2 u : List ℕ) (k1 : List (List ℕ)) (n1 : ℕ) (s : counts.Sources) → counts.sources n1 k1 ≡ s → t1 ≡ u → t2 ≡ counts.pruned_tags (counts.sources n1 k1) t1
+    → t2 ≡ counts.pruned_tags s u
+pruned_tags_so t1 t2 u k1 n1 s e d f = f ∙ ap (λ (s : counts.Sources). counts.pruned_tags s t1) e ∙ ap (counts.pruned_tags s) d
+
+-- with the sources' tags lent to the call and put back
+pub sourced_is : (room : ℕ) (tags t : List ℕ) (rows k : List (List ℕ)) (had n : ℕ) (name : Name) (cause : ℕ) → room + had < length tags
+    → counts.sources n k ≡ counts.pruned (counts.count (lent room tags) rows had name cause)
+    → t ≡ counts.pruned_tags (counts.count (lent room tags) rows had name cause) (counts.count_tags (lent room tags) rows had name)
+    → sources n (put room tags t) k ≡ sourced room tags rows had name cause
+sourced_is room tags t rows k had n name cause f e d =
     let l : room ≤ length tags = omega (arith, f) in
-    whole room tags t1 t2 (put room (put room tags t1) t2) rows k1 k2 had n1 n2 name cause
-    (e1 ∙ ap (λ (x : List ℕ). counts.count x rows had name cause) (lent_is room tags l)) (e2 ∙ ap (λ (x : List ℕ). counts.count_tags x rows had name) (lent_is room tags l))
-    e3 (e4 ∙ ap (counts.pruned_tags (counts.sources n1 k1)) (lent_again room tags t1 l)) (put_again room tags t1 l t2)
+    let front : List ℕ = take room tags in
+    ap (λ (x : List ℕ). sources n x k) (put_is room tags t l)
+    ∙ ap (λ (s : counts.Sources). sources s.count (front ++ t) s.rows) e
+    ∙ ap (λ (x : List ℕ). sources (counts.pruned (counts.count (lent room tags) rows had name cause)).count (front ++ x) (counts.pruned (counts.count (lent room tags) rows had name cause)).rows) d
+    ∙ ap (λ (own : List ℕ). sourced_with front (counts.count_tags own rows had name) (counts.count own rows had name cause)) (lent_is room tags l)
 
 -- the head beside the sources
 pub tallied_is : (h r : Shedder) (tags t : List ℕ) (rows k : List (List ℕ)) (n : ℕ) (name : Name) (cause receptions : ℕ)

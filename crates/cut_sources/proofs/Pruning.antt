@@ -5,7 +5,7 @@ use native.Mathlib.Decide.{dec_lt}
 use lib.ListN.{length-replicate, length-map}
 use lib.Seq.{get_or_at, set_at, set-append_seam}
 use Rattle.cut_sources.specs.Sorted.{one_if, below, highest}
-use Rattle.cut_sources.specs.Counted.{total, total_at, totals, keep_from, above, free, left, Sources, sources, prune, prune_one}
+use Rattle.cut_sources.specs.Counted.{total, total_at, totals, keep_from, above, free, left, Sources, sources, prune, prune_one, pruned}
 use Rattle.cut_sources.proofs.Sorted.{keep_from_there}
 
 -- ---- totals
@@ -144,3 +144,12 @@ pub frees_so : (rows out : List (List ℕ)) (n k r : ℕ) → k ≡ keep_from (t
 frees_so rows out n k r e p h g =
     let q : r ≡ (prune rows (keep_from (totals rows n)) n).count = ap (λ (s : Sources). s.count) p ∙ ap (λ (x : ℕ). (prune rows x n).count) e in
     omega (arith, frees rows n h g)
+
+-- ---- where a row is free all stay, else those above k do
+pub pruned_room : (rows : List (List ℕ)) (n : ℕ) → n < length rows → sources n rows ≡ pruned (sources n rows)
+unfolding pruned
+pruned_room rows n h = simp (lt-ltb n (length rows) h)
+
+pub pruned_full : (rows out : List (List ℕ)) (n k r : ℕ) → sources r out ≡ prune rows k n → length rows ≤ n → k ≡ keep_from (totals rows n) → sources r out ≡ pruned (sources n rows)
+unfolding pruned
+pruned_full rows out n k r p h e = simp (le-ltb n (length rows) h) (p ∙ ap (λ (x : ℕ). prune rows x n) e)

@@ -2,14 +2,15 @@
 #![tactic(auto)]
 
 ghost use Rattle.std.specs.Prelude.{◌≡◌, ◌+◌, ◌<◌, ◌≤◌, length};
+ghost use Rattle.store.specs.Causes.{index_of};
 ghost use Rattle.store.specs.Store as store;
 ghost use Rattle.cut_sources.specs.Counted as counts;
 
 mod totals;
 
-use sender::{Name, Words};
+use sender::{Name, Unit, Words};
 use std::mem;
-use store::{CAUSES, SourceRow, same};
+use store::{CAUSES, Cause, SourceRow};
 pub use totals::total_at;
 use totals::{keep_from, total};
 
@@ -33,31 +34,21 @@ pub fn counts_at(counted: &[SourceRow], i: usize) -> [u64; CAUSES]
 }
 
 // Whether the words are those of the unit that the row reads as.
+#[tactic(auto, unfolding(crate::specs::Counted::reads_as, store::specs::Store::same))]
 fn reads_as(counted: &[SourceRow], i: usize, w: Words) -> bool
     requires { i < length counted.now }
     ensures { result ≡ counts.reads_as counted.now w i }
 {
-    let unit = sender::unit_of(counted_words(counted, i));
-    same(sender::words_of(unit), w)
-}
-
-// The first of n sources that is the unit's, else n.
-fn counted_find(tags: &[u16], counted: &[SourceRow], n: usize, name: Name) -> usize
-    requires n_in_bounds { n ≤ length tags.now }
-    requires n_in_bounds_2 { n ≤ length counted.now }
-    ensures { result ≡ counts.counted_find tags.now counted.now name n }
-{
-    store_search::find_tagged(tags, n, name.tag, |i| reads_as(counted, i, name.words))
+    Words::from(Unit::from(counted_words(counted, i))) == w
 }
 
 // One more for a cause.
 #[tactic(auto, unfolding(crate::specs::Counted::counted_up))]
-fn counted_up(counted: &mut [SourceRow], i: usize, cause: usize)
-    requires i_in_bounds { i < length counted.old }
-    requires cause_bound { cause < store.«CAUSES» }
-    ensures { counted.new ≡ counts.counted_up counted.old i cause }
+fn counted_up(counted: &mut [SourceRow], i: usize, cause: Cause)
+    requires { i < length counted.old }
+    ensures { counted.new ≡ counts.counted_up counted.old i (index_of cause) }
 {
-    let cuts = &mut counted[i][5 + cause];
+    let cuts = &mut counted[i][5 + usize::from(cause)];
     *cuts = cuts.wrapping_add(1);
 }
 
@@ -70,81 +61,118 @@ fn counted_add(counted: &mut [SourceRow], i: usize, w: Words)
     counted[i] = [kind, a, b, c, d, 0, 0, 0];
 }
 
-// Of n sources, the unit's count for a cause is one more; how many sources there are then.
-pub fn count(
-    tags: &mut [u16],
-    counted: &mut [SourceRow],
-    n: usize,
-    name: Name,
-    cause: usize,
-) -> usize
-    requires n_in_bounds { n < length tags.old }
-    requires n_in_bounds_2 { n < length counted.old }
-    requires cause_bound { cause < store.«CAUSES» }
-    ensures counted_after { counts.sources result counted.new ≡ counts.count tags.old counted.old n name cause }
-    ensures tags_after { tags.new ≡ counts.count_tags tags.old counted.old n name }
-    ensures upper_bound { result ≤ n + 1 }
-{
-    let i = counted_find(tags, counted, n, name);
-    if i < n {
-        counted_up(counted, i, cause);
-        return n;
-    }
-    tags[n] = name.tag;
-    counted_add(counted, n, name.words);
-    counted_up(counted, n, cause);
-    n + 1
+// The counted sources in lent memory: of each a tag and a row. No fact on their lengths stands here, since a caller may lend fewer
+// tags than rows: each call asks for both.
+#[derive(Drop)]
+pub struct Sources<'a> {
+    pub tags: &'a mut [u16],
+    pub counted: &'a mut [SourceRow],
 }
 
-// ---- leaving out the least counted
+impl Sources<'_> {
+    ghost use Rattle.std.specs.Option.{IfSome};
+    ghost use Rattle.cut_sources.specs.Held.{SameSources};
+    ghost use Rattle.store.specs.Found.{found};
 
-// The source at i: moved to j, the end of those kept, where its total is above k, else freed.
-#[tactic(auto, unfolding(crate::specs::Counted::prune_one, crate::specs::Counted::tag_moved, crate::specs::Counted::total_at))]
-fn prune_one(tags: &mut [u16], counted: &mut [SourceRow], i: usize, j: usize, k: u64) -> usize
-    requires i_in_bounds { i < length tags.old }
-    requires i_in_bounds_2 { i < length counted.old }
-    requires j_le_i { j ≤ i }
-    ensures counted_after { counts.sources result counted.new ≡ counts.prune_one (counts.sources j counted.old) k i }
-    ensures tags_after { tags.new ≡ counts.tag_moved tags.old (counts.total_at counted.old i) k i j }
-    ensures upper_bound { result ≤ i + 1 }
-{
-    let tag = mem::replace(&mut tags[i], 0);
-    let row = mem::replace(&mut counted[i], [0; 8]);
-    if total(&row) <= k {
-        return j;
+    // The first of n sources that is the unit's.
+    fn counted_find(&self, n: usize, name: Name) -> Option<usize>
+        requires n_in_bounds { n ≤ length self.now.tags.now }
+        requires n_in_bounds_2 { n ≤ length self.now.counted.now }
+        ensures value { result ≡ found n (counts.counted_find self.now.tags.now self.now.counted.now name n) }
+        ensures upper_bound { IfSome result (λ i. i < n) }
+    {
+        let counted = &*self.counted;
+        store_search::find_tagged(self.tags, n, name.tag, |i| reads_as(counted, i, name.words))
     }
-    tags[j] = tag;
-    counted[j] = row;
-    j + 1
-}
 
-// Of n sources those above k stay, in their order; freed places become 0.
-fn prune(tags: &mut [u16], counted: &mut [SourceRow], n: usize, k: u64) -> usize
-    requires n_in_bounds { n ≤ length tags.old }
-    requires n_in_bounds_2 { n ≤ length counted.old }
-    ensures counted_after { counts.sources result counted.new ≡ counts.prune counted.old k n }
-    ensures tags_after { tags.new ≡ counts.prune_tags tags.old counted.old k n }
-    ensures upper_bound { result ≤ n }
-{
-    let mut j = 0;
-    for i in 0..n {
-        j = prune_one(tags, counted, i, j, k);
+    // Of n sources, the unit's count for a cause is one more; how many sources there are then.
+    #[tactic(auto, using(crate::proofs::Tagged::counted_there, crate::proofs::Tagged::tagged_there, crate::proofs::Tagged::counted_behind, crate::proofs::Tagged::tagged_behind))]
+    pub fn count(&mut self, n: usize, name: Name, cause: Cause) -> usize
+        requires n_in_bounds { n < length self.old.tags.now }
+        requires n_in_bounds_2 { n < length self.old.counted.now }
+        ensures counted_after { counts.sources result self.new.counted.now
+            ≡ counts.count self.old.tags.now self.old.counted.now n name (index_of cause) }
+        ensures tags_after { self.new.tags.now ≡ counts.count_tags self.old.tags.now self.old.counted.now n name }
+        ensures upper_bound { result ≤ n + 1 }
+        ensures slices { SameSources self.old self.new }
+    {
+        if let Some(i) = self.counted_find(n, name) {
+            counted_up(self.counted, i, cause);
+            return n;
+        }
+        self.tags[n] = name.tag;
+        counted_add(self.counted, n, name.words);
+        counted_up(self.counted, n, cause);
+        n + 1
     }
-    j
-}
 
-// Where the spare row is taken too, the least counted are left out; then at least one row is free again.
-pub fn pruned(tags: &mut [u16], counted: &mut [SourceRow], n: usize) -> usize
-    requires n_in_bounds { n ≤ length tags.old }
-    requires n_in_bounds_2 { n ≤ length counted.old }
-    ensures counted_after { counts.sources result counted.new ≡ counts.pruned (counts.sources n counted.old) }
-    ensures tags_after { tags.new ≡ counts.pruned_tags (counts.sources n counted.old) tags.old }
-    ensures upper_bound { result ≤ n }
-    ensures upper_bound_2 { 0 < length counted.old → result < length counted.old }
-{
-    if n < counted.len() {
-        return n;
+    // ---- leaving out the least counted
+
+    // The source at i: moved to j, the end of those kept, where its total is above k, else freed.
+    #[tactic(auto, unfolding(crate::specs::Counted::prune_one, crate::specs::Counted::tag_moved, crate::specs::Counted::total_at))]
+    fn prune_one(&mut self, i: usize, j: usize, k: u64) -> usize
+        requires i_in_bounds { i < length self.old.tags.now }
+        requires i_in_bounds_2 { i < length self.old.counted.now }
+        requires j_le_i { j ≤ i }
+        ensures counted_after { counts.sources result self.new.counted.now
+            ≡ counts.prune_one (counts.sources j self.old.counted.now) k i }
+        ensures tags_after { self.new.tags.now
+            ≡ counts.tag_moved self.old.tags.now (counts.total_at self.old.counted.now i) k i j }
+        ensures upper_bound { result ≤ i + 1 }
+        ensures slices { SameSources self.old self.new }
+    {
+        let tag = mem::replace(&mut self.tags[i], 0);
+        let row = mem::replace(&mut self.counted[i], [0; 8]);
+        if total(&row) <= k {
+            return j;
+        }
+        self.tags[j] = tag;
+        self.counted[j] = row;
+        j + 1
     }
-    let k = keep_from(counted, n);
-    prune(tags, counted, n, k)
+
+    // Of n sources those above k stay, in their order; freed places become 0.
+    fn prune(&mut self, n: usize, k: u64) -> usize
+        requires n_in_bounds { n ≤ length self.old.tags.now }
+        requires n_in_bounds_2 { n ≤ length self.old.counted.now }
+        ensures counted_after { counts.sources result self.new.counted.now ≡ counts.prune self.old.counted.now k n }
+        ensures tags_after { self.new.tags.now ≡ counts.prune_tags self.old.tags.now self.old.counted.now k n }
+        ensures upper_bound { result ≤ n }
+        ensures slices { SameSources self.old self.new }
+    {
+        let mut j = 0;
+        for i in 0..n {
+            j = self.prune_one(i, j, k);
+        }
+        j
+    }
+
+    // The total up to which sources are left out. It has a function of its own, since after a slice is read in a function that
+    // has `&mut self` the check keeps no more than its length.
+    fn keep_from(&self, n: usize) -> u64
+        requires { n ≤ length self.now.counted.now }
+        ensures { result ≡ counts.keep_from (counts.totals self.now.counted.now n) }
+    {
+        keep_from(self.counted, n)
+    }
+
+    // Where the spare row is taken too, the least counted are left out; then at least one row is free again.
+    #[tactic(auto, using(crate::proofs::Pruning::pruned_room, crate::proofs::Tagged::pruned_tags_room))]
+    pub fn pruned(&mut self, n: usize) -> usize
+        requires n_in_bounds { n ≤ length self.old.tags.now }
+        requires n_in_bounds_2 { n ≤ length self.old.counted.now }
+        ensures counted_after { counts.sources result self.new.counted.now
+            ≡ counts.pruned (counts.sources n self.old.counted.now) }
+        ensures tags_after { self.new.tags.now
+            ≡ counts.pruned_tags (counts.sources n self.old.counted.now) self.old.tags.now }
+        ensures upper_bound { result ≤ n }
+        ensures upper_bound_2 { 0 < length self.old.counted.now → result < length self.old.counted.now }
+        ensures slices { SameSources self.old self.new }
+    {
+        if n < self.counted.len() {
+            return n;
+        }
+        let k = self.keep_from(n);
+        self.prune(n, k)
+    }
 }

@@ -1,4 +1,5 @@
-// A counted source's total, and the total up to which sources are left out.
+// A counted source's total, and the total up to which sources are left out. Those counted are the first n of a longer slice; n stays
+// beside it, as in the definitions.
 ghost use Rattle.std.specs.Prelude.{◌≡◌, ◌<◌, ◌≤◌, length};
 ghost use Rattle.cut_sources.specs.Sorted as sorted;
 ghost use Rattle.cut_sources.specs.Counted as counts;

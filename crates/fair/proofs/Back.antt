@@ -16,7 +16,7 @@ use Rattle.sender.specs.declared.Name.{Name}
 use Rattle.store.specs.Store.{Rows, rows, part, picked, joined, unit_row, words_at, name_at, use_at, units_put, uses_put, added}
 use Rattle.store.proofs.Names.{words_put}
 use Rattle.fair.proofs.View as view
-use Rattle.store.proofs.Places.{Same, added_other, put_other}
+use Rattle.store.proofs.Places.{Same, put_other}
 use Rattle.fair.proofs.Sweep as pass
 
 -- ---- floats
@@ -109,12 +109,6 @@ module _ (room : ℕ) where
         let e : get_or (set m.units n r) n [] ≡ r = get_or-set_same m.units n r [] hu in
         let f : get_or (set m.uses n (joined u.attempted u.credit)) n [] ≡ joined u.attempted u.credit = get_or-set_same m.uses n _ [] hs in
         simp (d, e, f, low u.attempted u.credit whole.attempted, high u.attempted u.credit whole.credit)
-
-    pub added_listed : listed (added m n w u) (n + 1) ≡ listed m n ++ (row w u ∷ [])
-    added_listed =
-        listed_next (added m n w u) n
-        ∙ ap (λ (x : List R'). x ++ (record_at (added m n w u) n ∷ [])) (listed_same (added m n w u) m n (λ j h. record_same (added m n w u) j m j (added_other m n w u j (λ q. absurd (omega arith)))))
-        ∙ ap (λ (r : R'). listed m n ++ (r ∷ [])) added_there
 
   -- ---- a use put at a place of the live ones: that record has the use, every other record is as it was
   module _ (m : Rows) (i : ℕ) (u : Use) (whole : Whole u) (hi : i < length m.tags) (hu : i < length m.units) (hs : i < length m.uses) (seven : length (get_or m.units i []) ≡ 7) where

@@ -21,8 +21,8 @@ use Rattle.head.specs.declared.Shedder.{Shedder}
 use Rattle.std.proofs.Common.{Result, Ok}
 use Rattle.head.specs.declared.Refusal.{Refusal}
 use Rattle.head.specs.Answers.{refused as refused_by}
-use Rattle.head.specs.declared.Cause.{Cause}
-use Rattle.head.specs.declared.Cause.TheVariants as cause
+use Rattle.store.specs.declared.Cause.{Cause}
+use Rattle.store.specs.declared.Cause.TheVariants as cause
 use Rattle.fair.specs.Given as goal
 use Rattle.fair.specs.Given.{Memory, memory}
 use Rattle.fair.specs.Runs.{sum, highest, lowest, clock, back, Each}

@@ -19,8 +19,8 @@ use Rattle.sender.specs.Sender as sender
 use Rattle.store.specs.Store.{Rows}
 use Rattle.head.proofs.Tests.{zero_yes}
 use Rattle.head.specs.declared.Shedder.{Shedder}
-use Rattle.head.specs.declared.Cause.{Cause}
-use Rattle.head.specs.declared.Cause.TheVariants as cause
+use Rattle.store.specs.declared.Cause.{Cause}
+use Rattle.store.specs.declared.Cause.TheVariants as cause
 use Rattle.head.specs.Answers.{refusal_of, refused}
 use Rattle.head.proofs.Numbers.{number_some}
 use Rattle.fair.specs.Given as goal

@@ -69,9 +69,6 @@ added_wide m n w x hu wide j h = elim (ℕ_discrete j n) [
   | no q ↦ ap (λ (r : List ℕ). length r) (get_or-set_other m.units n j _ [] q) ∙ wide j (omega arith)
 ]
 
-long_self : (x : Rows) → Long x x
-long_self x = record { tags = refl; units = refl; uses = refl }
-
 module _ (room : ℕ) where
   abbrev pub S : Type 0
   S = model.Store Name same shares room

@@ -1,6 +1,6 @@
 -- The trial of the paper, on the model: rates 10 and 1000, no ceiling. Three batches of one sender, all stamped 1000: of cost 5 and 100, 6 and 0, 30 and 0. Assumes nothing.
 use mathlib.Core.Path.{◌≡◌, refl}
-use Prim.Native.Nat.{ℕ, zero, suc, ◌-◌}
+use Prim.Native.Nat.{ℕ, zero, suc}
 use mathlib.Core.Bool.{Bool, true, false}
 use mathlib.Core.List.{List, [], ◌∷◌}
 use lib.Dec.{eqb}

@@ -23,7 +23,7 @@ use Rattle.sender.specs.declared.Name as sender_name
 use Rattle.cut_sources.specs.Counted as counts
 use Rattle.store.specs.Store.{Rows, rows}
 use Rattle.store.proofs.Places.{Same}
-use Rattle.ieee.proofs.Tests.{both_yes}
+use Rattle.std.proofs.lemmas.Bool.{and_parts}
 use Rattle.head.proofs.Tests.{zero_yes}
 use Rattle.head.specs.declared.Shedder.{Shedder}
 use Rattle.head.specs.declared.Flow.{Flow}
@@ -88,10 +88,6 @@ module _ (room : ℕ) (rate : List ℕ) where
 
   -- ---- a use is put back, and the flow is another
   module _ (h : Shedder) (m : Rows) (st : S) (clk : ℕ) (b : Bound room rate h m st clk) where
-    -- the store as the view gives it
-    seen_so : S
-    seen_so = viewed room st.bucket m h.tracked h.overflow
-
     so : viewed room st.bucket m h.tracked h.overflow ≡ st
     so = ap (λ (xs : List (view.R room)). record { bucket = st.bucket; rows = xs; overflow = h.overflow }) b.tied.rows_is ∙ ap (λ (x : Use). record { bucket = st.bucket; rows = st.rows; overflow = x }) b.tied.overflow_is
 
@@ -290,7 +286,7 @@ pub bounded_rates : (rate : List ℕ) → goal.all_rates rate ≡ true → (d : 
 unfolding goal.all_rates goal.is_rate
 bounded_rates rate e d small =
     let r = get_or rate d 0 in
-    let y = both_yes (leb 1 r) (leb r 1099511627776) (all-at (λ (d : ℕ). goal.is_rate (get_or rate d 0)) dims d small e) in
+    let y = and_parts (leb 1 r) (leb r 1099511627776) (all-at (λ (d : ℕ). goal.is_rate (get_or rate d 0)) dims d small e) in
     (leb-true 1 r y.0, leb-true r 1099511627776 y.1)
 
 pub not_unbounded : (rate : List ℕ) → goal.all_rates rate ≡ true → goal.is_unbounded rate ≡ false

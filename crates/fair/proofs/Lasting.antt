@@ -11,9 +11,9 @@ use borrow.Author.Tests.{ltb-false, lt-ltb, le-ltb, le-leb, eq-eqb, ne_eqb, eqb-
 use Rattle.sender.specs.declared.Unit as unit
 use Rattle.wants.specs.Wants as wants
 use Rattle.head.specs.declared.Shedder.{Shedder}
-use Rattle.ieee.proofs.Tests.{both_yes}
+use Rattle.std.proofs.lemmas.Bool.{and_parts}
 use Rattle.head.proofs.Tests.{zero_yes, no_yes}
-use Rattle.head.specs.declared.Cause.{Cause}
+use Rattle.store.specs.declared.Cause.{Cause}
 use Rattle.std.proofs.Common.{Ok}
 use Rattle.head.specs.Answers.{refused as refused_by}
 use Rattle.fair.specs.Given as goal
@@ -200,8 +200,8 @@ unfolding goal.start_asked goal.sizes_whole goal.tags_whole
 asked_sizes rate i u s k e =
     let a = zero_yes (goal.is_unbounded rate || goal.all_rates rate) _ 0 e in
     let b = zero_yes (eqb i (u + k) && (eqb s u && goal.rooms_whole u k 0 0)) 0 1 a.1 in
-    let c = both_yes (eqb i (u + k)) _ b.0 in
-    let d = both_yes (eqb s u) _ c.1 in
+    let c = and_parts (eqb i (u + k)) _ b.0 in
+    let d = and_parts (eqb s u) _ c.1 in
     record { tags = eqb-true i (u + k) c.0; uses = eqb-true s u d.0; rooms = rooms_of u k 0 0 d.1 }
 
 started_asked : (n : ℕ) (h o : Shedder) (g k : wants.Hist) (a : Bool) → (cond a (goal.start_ends (Ok tt) o k) (goal.start_ends (refused_by n) h g)).answer ≡ Ok tt → a ≡ true

@@ -2,8 +2,8 @@
 use mathlib.Core.Path.{◌≡◌, refl, sym, ap, ◌∙◌}
 use Prim.Native.Nat.{ℕ, zero, suc, ◌+◌, max}
 use mathlib.Core.Bool.{Bool, true, false, cond}
-use mathlib.Core.List.{List, ◌++◌}
-use lib.Dec.{eqb, leb, ltb}
+use mathlib.Core.List.{List}
+use lib.Dec.{leb, ltb}
 use lib.ListN.{length, get_or, set, take, drop, length-set, length-append, take-append-drop}
 use lib.Ieee.{Float}
 use Rattle.flow.specs.Flow as flow
@@ -20,7 +20,7 @@ use Rattle.wants.specs.Wants.{Hist}
 use Rattle.cut_sources.specs.Counted as counts
 use Rattle.cut_sources.proofs.Tagged.{count_long, pruned_long}
 use Rattle.head.specs.declared.Shedder.{Shedder}
-use Rattle.head.specs.declared.Cause.{Cause}
+use Rattle.store.specs.declared.Cause.{Cause}
 use Rattle.fair.specs.Given as goal
 use Rattle.fair.specs.Given.{Memory, memory}
 

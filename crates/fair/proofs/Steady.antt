@@ -23,7 +23,7 @@ use Rattle.cut_sources.proofs.Pruning.{prune_none, prune_next, frees_so}
 use Rattle.wants.specs.Wants as wants
 use Rattle.wants.specs.Wants.{Hist}
 use Rattle.head.specs.declared.Shedder.{Shedder}
-use Rattle.head.specs.declared.Cause.{Cause}
+use Rattle.store.specs.declared.Cause.{Cause}
 use Rattle.fair.specs.Given as goal
 use Rattle.fair.specs.Given.{Memory, memory}
 

@@ -11,7 +11,7 @@ use lib.Ieee as Ieee
 use lib.Ieee.{Float, binary64, nan}
 use lib.Ieee.Fits.{mul-fits}
 use borrow.Author.Tests.{ltb-true, lt-ltb}
-use Rattle.ieee.proofs.Tests.{both_yes}
+use Rattle.std.proofs.lemmas.Bool.{and_parts}
 use Rattle.ieee.specs.Doubles.{one, nothing}
 use Rattle.ieee.specs.Extremes.{most}
 use Rattle.flow.specs.Flow.{dims, at, bucket_at}
@@ -215,7 +215,7 @@ module _ (room : ℕ) where
     -- what it drops is old by the clock
     stale_old : (table a clk : ℕ) → a ≤ clk → (r : R') → view.stale room table a r ≡ true → ltb (r.used.at_ms + stale_after) clk ≡ true
     stale_old table a clk l r e =
-        let y = both_yes (eqb (sender.table_of_tag r.name.name.tag) table) (ltb 8000 (a - r.used.at_ms)) e in
+        let y = and_parts (eqb (sender.table_of_tag r.name.name.tag) table) (ltb 8000 (a - r.used.at_ms)) e in
         lt-ltb (r.used.at_ms + stale_after) clk (omega (arith, ltb-true 8000 (a - r.used.at_ms) y.1))
 
     came_old : (b : Shedder) (clk : ℕ) → b.scan.at_ms ≤ clk → (r : R') → came_from b r ≡ came_from b r && ltb (r.used.at_ms + stale_after) clk

@@ -14,7 +14,7 @@ use Rattle.sender.specs.declared.Unit as unit
 use Rattle.store.specs.Store as store
 use Rattle.store.specs.Store.{Rows, name_at}
 use Rattle.store.proofs.Names as stored
-use Rattle.ieee.proofs.Tests.{both_yes}
+use Rattle.std.proofs.lemmas.Bool.{and_parts}
 use Rattle.fair.specs.Store as model
 use Rattle.fair.specs.Calls.{same_name}
 
@@ -59,7 +59,7 @@ name_ext a a' w w' p q = cc
 
 pair_same : (v w : sender_name.Name) → same_name v w ≡ true → v ≡ w
 pair_same v w e =
-    let a = both_yes (eqb w.tag v.tag) _ e in
+    let a = and_parts (eqb w.tag v.tag) _ e in
     stored.name_ext v.tag w.tag v.words w.words (sym (eqb-true w.tag v.tag a.0)) (sym (stored.words_same w.words v.words a.1))
 
 pair_self : (v : sender_name.Name) → same_name v v ≡ true
@@ -67,7 +67,7 @@ pair_self v = simp (eq-eqb v.tag v.tag refl, stored.words_self v.words)
 
 pub same_is : (u v : Name) → T (same u v) → u ≡ v
 same_is u v t =
-    let a = both_yes (alike u.overflow v.overflow) _ (true_of (same u v) t) in
+    let a = and_parts (alike u.overflow v.overflow) _ (true_of (same u v) t) in
     name_ext u.overflow v.overflow u.name v.name (alike_of u.overflow v.overflow a.0) (pair_same u.name v.name a.1)
 
 pub same_self : (u : Name) → T (same u u)

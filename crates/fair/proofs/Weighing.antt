@@ -4,10 +4,7 @@ use Prim.Native.Nat.{ℕ, ◌+◌, ◌-◌, ◌*◌, ◌≤◌, min}
 use native.Mathlib.Nat.{lt_of_not-le, mul-le-mul, mul-le-mul_left, mul-le-mul_right}
 use native.Mathlib.Omega.{arith}
 use native.Mathlib.Decide.{dec_le}
-use Rattle.ieee.specs.Units.{units}
-use Rattle.fair.specs.Runs.{highest}
 use Rattle.fair.specs.Bounds.{most_depth}
-use Rattle.fair.specs.Credit.{met, admitted, fill}
 
 -- ---- the numbers. c was held at time a, r is met `now` at the fill f, x of it is admitted and c' left; F' is the highest fill then. g is 1000 * (H + n / 1024) in units.
 module _ (r c c' xu f F F' a now z k Au g e : ℕ) (pay : c' + xu ≡ r) (f' : f ≤ F') (F'' : F ≤ F') (cap : r ≤ 4 * f) where

@@ -17,8 +17,8 @@ use Rattle.sender.specs.Sender as sender
 use Rattle.store.specs.Store as store
 use Rattle.head.specs.declared.Shedder.{Shedder}
 use Rattle.head.specs.declared.Refusal.{Refusal}
-use Rattle.head.specs.declared.Cause.{Cause}
-use Rattle.head.specs.declared.Cause.TheVariants as cause
+use Rattle.store.specs.declared.Cause.{Cause}
+use Rattle.store.specs.declared.Cause.TheVariants as cause
 use Rattle.flow.specs.declared.Dim.{Dim}
 use Rattle.report.specs.Report.{report_asked}
 use Rattle.fair.specs.Given as shed

@@ -2,6 +2,8 @@
 #![tactic(auto)]
 
 ghost use Rattle.std.specs.Prelude.{◌≡◌, min};
+ghost use Rattle.store.specs.Held.{SameLent};
+ghost use Rattle.wants.specs.Held.{SameArrays};
 ghost use Rattle.fair_row.specs.Replay as replay;
 ghost use Rattle.fair_replay.specs.Runs as runs;
 
@@ -9,8 +11,8 @@ use fair_row::{Call, Turned};
 use flow::DIMS;
 use head::Shedder;
 use sender::Unit;
-use store::{SourceRow, UnitRow, UseRow};
-use wants::{Counts, Sums};
+use store::Lent;
+use wants::Histogram;
 
 // Sums in each dimension, modulo 2^64.
 #[tactic(auto, unfolding(fair_row::specs::Replay::sums))]
@@ -65,23 +67,18 @@ fn after(run: Replayed, t: Turned, inside: bool) -> Replayed
 // record that is watched, by its unit: overflow's by the unit overflow. out is the buffer of the reports.
 pub fn replay(
     head: Shedder,
-    tags: &mut [u16],
-    units: &mut [UnitRow],
-    uses: &mut [UseRow],
-    counts: &mut Counts,
-    sums: &mut Sums,
-    counted: &mut [SourceRow],
+    lent: &mut Lent<'_>,
+    histogram: &mut Histogram<'_>,
     watched: Unit,
     list: &[Call],
     from: usize,
     to: usize,
     out: &mut [u8],
 ) -> Replayed
-    ensures { runs.Replays watched from to
-        (replay.held head tags.old units.old uses.old counts.old sums.old counted.old)
-        out.old list.now result
-        (replay.held result.head tags.new units.new uses.new counts.new sums.new counted.new)
-        out.new }
+    ensures totals { runs.Replays watched from to (replay.held_lent head lent.old histogram.old)
+        out.old list.now result (replay.held_lent result.head lent.new histogram.new) out.new }
+    ensures slices { SameLent lent.old lent.new }
+    ensures arrays { SameArrays histogram.old histogram.new }
 {
     let mut run = Replayed {
         head,
@@ -93,9 +90,7 @@ pub fn replay(
     };
     let end = to.min(list.len());
     for i in 0..end {
-        let turned = fair_row::turn(
-            run.head, tags, units, uses, counts, sums, counted, watched, list[i], out,
-        );
+        let turned = fair_row::turn(run.head, lent, histogram, watched, list[i], out);
         run = after(run, turned, from <= i);
     }
     run

@@ -13,8 +13,8 @@ use Rattle.std.proofs.lemmas.List.{same_lists}
 use Rattle.verdict.specs.declared.Verdict.{Verdict}
 use Rattle.verdict.specs.declared.Verdict.TheVariants as verdict
 use Rattle.head.specs.declared.Refusal.{Refusal}
-use Rattle.head.specs.declared.Cause.{Cause}
-use Rattle.head.specs.declared.Cause.TheVariants as cause
+use Rattle.store.specs.declared.Cause.{Cause}
+use Rattle.store.specs.declared.Cause.TheVariants as cause
 use Rattle.head.specs.declared.Shedder.{Shedder}
 use Rattle.head.specs.Answers.{judge_number, cut_number}
 use Rattle.store.specs.Store.{Rows}

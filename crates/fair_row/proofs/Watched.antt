@@ -7,6 +7,8 @@ use native.Mathlib.Omega.{arith}
 use borrow.Author.Tests.{ltb-true, lt-ltb, le-ltb, eqb-true}
 use lib.Dec.{T, eqb, ltb}
 use lib.ListN.{length}
+use Rattle.std.specs.Prelude.{Some, None}
+use Rattle.std.specs.Option.{is_some}
 use Rattle.sender.specs.declared.Unit as unit
 use Rattle.sender.specs.Sender as sender
 use Rattle.sender.specs.Sender.{Tells}
@@ -14,6 +16,7 @@ use Rattle.sender.proofs.Naming.{name_injective}
 use Rattle.flow.specs.Flow as flow
 use Rattle.store.specs.Store as store
 use Rattle.store.specs.Store.{Rows}
+use Rattle.store.specs.Found.{found}
 use Rattle.head.specs.declared.Shedder.{Shedder}
 use Rattle.std.proofs.Common.{Ok}
 use Rattle.verdict.specs.declared.Verdict.TheVariants as verdict
@@ -28,6 +31,15 @@ use Rattle.judge.specs.Judging.{Memory, Judged, judge_ends, bounded}
 use Rattle.fair.specs.Calls as calls
 use Rattle.fair.proofs.View as view
 use Rattle.fair_row.specs.Replay.{key_of, own_used, on_watched}
+
+-- ---- a place that a search over the first n gives
+some_by : (i : ℕ) (b : Bool) → is_some (cond b (Some i) None) ≡ b
+some_by i true = refl
+some_by i false = refl
+
+pub some_is : (n i : ℕ) → is_some (found n i) ≡ ltb i n
+unfolding found
+some_is n i = some_by i (ltb i n)
 
 -- ---- the same unit
 told : (w u : unit.Unit) (r b : Bool) → calls.same_name (sender.name_of w) (sender.name_of u) ≡ b → Tells r (w ≡ u) → r ≡ b

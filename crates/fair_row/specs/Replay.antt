@@ -4,16 +4,19 @@ use Rattle.flow.specs.Flow.{dims, upto}
 use Rattle.sender.specs.declared.Unit as unit
 use Rattle.sender.specs.Sender as sender
 use Rattle.store.specs.Store as store
-use Rattle.wants.specs.Wants as wants
 use Rattle.wants.specs.Wants.{Hist}
 use Rattle.head.specs.declared.Shedder.{Shedder}
 use Rattle.verdict.specs.declared.Verdict.{Verdict}
 use Rattle.verdict.specs.declared.Verdict.TheVariants as verdict
 use Rattle.head.specs.declared.Refusal.{Refusal}
-use Rattle.head.specs.declared.Cause.{Cause}
-use Rattle.head.specs.declared.Cause.TheVariants as cause
+use Rattle.store.specs.declared.Cause.{Cause}
+use Rattle.store.specs.declared.Cause.TheVariants as cause
 use Rattle.report.specs.Report as reports
 use Rattle.judge.specs.Judging as judging
+use Rattle.judge.specs.Lending.{lent_memory}
+use Rattle.store.specs.declared.lent.Lent.{Lent}
+use Rattle.store.specs.declared.lent.LentRead.{LentRead}
+use Rattle.wants.specs.declared.Histogram.{Histogram}
 use Rattle.head.specs.Bits.{SameButNanBits}
 use Rattle.fair.specs.Calls as calls
 use Rattle.fair.specs.Calls.{State, Call, Event, Key, Judge, Cut, Read, Reading, Report, ReportBeside, Count, Visited, Level, Rate, IsBounded, by}
@@ -28,8 +31,16 @@ use Rattle.fair_row.specs.declared.Turned.{Turned}
 abbrev pub held_with : Hist → Shedder → List ℕ → List (List ℕ) → List (List Float) → List (List ℕ) → State
 held_with g h tags units uses counted = calls.state_of h (judging.memory (store.rows tags units uses) g counted)
 
-abbrev pub held : Shedder → List ℕ → List (List ℕ) → List (List Float) → List (List ℕ) → List (List Float) → List (List ℕ) → State
-held h tags units uses counts sums counted = held_with (wants.hist counts sums) h tags units uses counted
+-- as they are lent to a call
+abbrev pub held_lent : Shedder → Lent → Histogram → State
+held_lent h l g = calls.state_of h (lent_memory l g)
+
+-- and to one that reads the rows, or writes no histogram
+abbrev pub held_rows : Hist → Shedder → Lent → State
+held_rows g h l = held_with g h l.tags.now l.units.now l.uses.now l.counted.now
+
+abbrev pub held_read : Hist → Shedder → LentRead → State
+held_read g h l = held_with g h l.tags.now l.units.now l.uses.now l.counted.now
 
 -- ---- the program's calls
 -- as those of the theorem, which hold a report's buffer: `page` is that buffer as the call gets it

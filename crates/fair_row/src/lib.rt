@@ -6,7 +6,9 @@ mod read;
 
 ghost use Rattle.std.specs.Prelude.{◌≡◌};
 ghost use Rattle.sender.specs.declared.Unit as sent;
+ghost use Rattle.store.specs.Held.{SameLent};
 ghost use Rattle.wants.specs.Wants.{Hist};
+ghost use Rattle.wants.specs.Held.{SameArrays};
 ghost use Rattle.fair.specs.Calls as calls;
 ghost use Rattle.fair_row.specs.Replay as replay;
 
@@ -16,9 +18,9 @@ use head::{Cause, Refusal, Shedder};
 use own::on_watched;
 use read::answer_reading;
 use sender::Unit;
-use store::{Records, SourceRow, UnitRow, UseRow};
+use store::Lent;
 use verdict::Verdict;
-use wants::{Counts, Sums};
+use wants::Histogram;
 
 // A call that only reads.
 #[derive(Clone, Copy)]
@@ -79,7 +81,7 @@ fn counted_if(on: bool, cost: [u64; DIMS]) -> [u64; DIMS]
     if on { cost } else { [0; DIMS] }
 }
 
-// What a call leaves, the number of its refusal (0 for none; a number, since the list of calls counts by it), what it admits, what of that on the watched record, what it hands back, and whether it is a judgement answered over share.
+// What a call leaves, the number of its refusal (0 for none; a number, as in the definition of the list, which counts the calls whose number is 0), what it admits, what of that on the watched record, what it hands back, and whether it is a judgement answered over share.
 #[derive(Clone, Copy)]
 pub struct Turned {
     pub head: Shedder,
@@ -108,31 +110,20 @@ impl Turned {
 
 fn judge_turn(
     head: Shedder,
-    tags: &mut [u16],
-    units: &mut [UnitRow],
-    uses: &mut [UseRow],
-    counts: &mut Counts,
-    sums: &mut Sums,
-    counted: &mut [SourceRow],
+    lent: &mut Lent<'_>,
+    histogram: &mut Histogram<'_>,
     watched: Unit,
     unit: Unit,
     cost: [u64; DIMS],
     stamp: u64,
 ) -> Turned
-    ensures { replay.Turns watched
-        (replay.held head tags.old units.old uses.old counts.old sums.old counted.old)
-        (calls.Judge unit cost stamp) result
-        (replay.held result.head tags.new units.new uses.new counts.new sums.new counted.new) }
+    ensures turns { replay.Turns watched (replay.held_lent head lent.old histogram.old)
+        (calls.Judge unit cost stamp) result (replay.held_lent result.head lent.new histogram.new) }
+    ensures slices { SameLent lent.old lent.new }
+    ensures arrays { SameArrays histogram.old histogram.new }
 {
-    let records = Records {
-        tags: &mut *tags,
-        units: &mut *units,
-        uses: &mut *uses,
-    };
-    let mine = on_watched(head, &records, watched, unit);
-    let judged = judge::judge(
-        head, tags, units, uses, counts, sums, counted, unit, cost, stamp,
-    );
+    let mine = on_watched(head, &lent.read(), watched, unit);
+    let judged = judge::judge(head, lent, histogram, unit, cost, stamp);
     let admitted = counted_if(is_admitted(judged.answer), cost);
     let admitted_on = counted_if(mine, admitted);
     let over_share = is_over_share(judged.answer);
@@ -147,20 +138,16 @@ fn judge_turn(
 
 fn cut_turn(
     head: Shedder,
-    tags: &mut [u16],
-    units: &mut [UnitRow],
-    uses: &mut [UseRow],
-    counted: &mut [SourceRow],
+    lent: &mut Lent<'_>,
     unit: Unit,
     cause: Cause,
     cost: [u64; DIMS],
 ) -> Turned
-    ensures { (watched : sent.Unit) (g : Hist) → replay.Turns watched
-        (replay.held_with g head tags.old units.old uses.old counted.old)
-        (calls.Cut unit cause cost) result
-        (replay.held_with g result.head tags.new units.new uses.new counted.new) }
+    ensures turns { (watched : sent.Unit) (g : Hist) → replay.Turns watched (replay.held_rows g head lent.old)
+        (calls.Cut unit cause cost) result (replay.held_rows g result.head lent.new) }
+    ensures slices { SameLent lent.old lent.new }
 {
-    let cut = cut::cut(head, tags, units, uses, counted, unit, cause, cost);
+    let cut = cut::cut(head, lent, unit, cause, cost);
     let handed = counted_if(is_hand_back(cause), cost);
     let none = Turned::empty(cut.head, answer_number(cut.answer));
     Turned { handed, ..none }
@@ -170,33 +157,26 @@ fn cut_turn(
 #[tactic(auto, unfolding(crate::specs::Replay::call_of))]
 pub fn turn(
     head: Shedder,
-    tags: &mut [u16],
-    units: &mut [UnitRow],
-    uses: &mut [UseRow],
-    counts: &mut Counts,
-    sums: &mut Sums,
-    counted: &mut [SourceRow],
+    lent: &mut Lent<'_>,
+    histogram: &mut Histogram<'_>,
     watched: Unit,
     call: Call,
     out: &mut [u8],
 ) -> Turned
-    ensures turns { replay.Turns watched
-        (replay.held head tags.old units.old uses.old counts.old sums.old counted.old)
-        (replay.call_of call out.old) result
-        (replay.held result.head tags.new units.new uses.new counts.new sums.new counted.new) }
-    ensures out_after { out.new ≡ replay.page_after
-        (replay.held head tags.old units.old uses.old counts.old sums.old counted.old)
+    ensures turns { replay.Turns watched (replay.held_lent head lent.old histogram.old)
+        (replay.call_of call out.old) result (replay.held_lent result.head lent.new histogram.new) }
+    ensures out_after { out.new ≡ replay.page_after (replay.held_lent head lent.old histogram.old)
         (replay.call_of call out.old) out.old }
+    ensures slices { SameLent lent.old lent.new }
+    ensures arrays { SameArrays histogram.old histogram.new }
 {
     match call {
-        Call::Judge { unit, cost, stamp } => judge_turn(
-            head, tags, units, uses, counts, sums, counted, watched, unit, cost, stamp,
-        ),
-        Call::Cut { unit, cause, cost } => {
-            cut_turn(head, tags, units, uses, counted, unit, cause, cost)
+        Call::Judge { unit, cost, stamp } => {
+            judge_turn(head, lent, histogram, watched, unit, cost, stamp)
         }
+        Call::Cut { unit, cause, cost } => cut_turn(head, lent, unit, cause, cost),
         Call::Read(reading) => {
-            let number = answer_reading(head, tags, units, uses, counted, reading, out);
+            let number = answer_reading(head, &lent.read(), reading, out);
             Turned::empty(head, number)
         }
     }

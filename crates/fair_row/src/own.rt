@@ -4,11 +4,11 @@ ghost use Rattle.fair_row.specs.Replay as replay;
 
 use head::Shedder;
 use sender::Unit;
-use store::Records;
+use store::LentRead;
 
 // Whether a judgement of the unit uses the unit's own record: found, or added. False where the slices are shorter than the records in use: such a judgement is refused.
-fn uses_own(head: Shedder, records: &Records<'_>, unit: Unit) -> bool
-    ensures { result ≡ replay.own_used records.now.tags.now records.now.units.now head.tracked head.unit_room unit }
+fn uses_own(head: Shedder, lent: &LentRead<'_>, unit: Unit) -> bool
+    ensures { result ≡ replay.own_used lent.now.tags.now lent.now.units.now head.tracked head.unit_room unit }
 {
     if sender::is_overflow(unit) {
         return false;
@@ -16,23 +16,22 @@ fn uses_own(head: Shedder, records: &Records<'_>, unit: Unit) -> bool
     if head.tracked < head.unit_room {
         return true;
     }
-    if records.tags.len() < head.tracked {
+    if lent.tags.len() < head.tracked {
         return false;
     }
-    if records.units.len() < head.tracked {
+    if lent.units.len() < head.tracked {
         return false;
     }
     let name = sender::name_of(unit);
-    let i = store_search::find(records, head.tracked, name);
-    i < head.tracked
+    store_search::find_in(lent.tags, lent.units, head.tracked, name).is_some()
 }
 
 // Whether a judgement of the unit uses the watched record: that of the unit `watched`, or overflow's where that is overflow.
-pub fn on_watched(head: Shedder, records: &Records<'_>, watched: Unit, unit: Unit) -> bool
-    ensures { result ≡ replay.on_watched records.now.tags.now records.now.units.now head.tracked head.unit_room watched unit }
+pub fn on_watched(head: Shedder, lent: &LentRead<'_>, watched: Unit, unit: Unit) -> bool
+    ensures { result ≡ replay.on_watched lent.now.tags.now lent.now.units.now head.tracked head.unit_room watched unit }
 {
-    if uses_own(head, records, unit) {
-        return sender::same_unit(watched, unit);
+    if uses_own(head, lent, unit) {
+        return watched == unit;
     }
     sender::is_overflow(watched)
 }

@@ -7,7 +7,7 @@ ghost use Rattle.fair_row.specs.Replay as replay;
 use crate::Reading;
 use codes::answer_number;
 use head::Shedder;
-use store::{SourceRow, UnitRow, UseRow};
+use store::LentRead;
 use text::Page;
 
 // The longest buffer that is written through `report`: the trial's.
@@ -16,56 +16,39 @@ const PAGE: usize = 4096;
 // A report into out; the answer is the number of its refusal. A buffer that `report` is lent goes into its result, and has no
 // value after it: so it gets one of its own, as long as out, and its part is put into out. A longer buffer than PAGE is
 // written by the call that `report` makes itself.
-fn put_report(
-    head: Shedder,
-    tags: &[u16],
-    units: &[UnitRow],
-    uses: &[UseRow],
-    counted: &[SourceRow],
-    out: &mut [u8],
-) -> u64
+fn put_report(head: Shedder, lent: &LentRead<'_>, out: &mut [u8]) -> u64
     ensures value { (g : Hist) → result ≡ calls.report_number
-        (replay.held_with g head tags.now units.now uses.now counted.now)
+        (replay.held_read g head lent.now)
         out.old }
     ensures out_after { (g : Hist) → out.new ≡ replay.report_page
-        (replay.held_with g head tags.now units.now uses.now counted.now)
+        (replay.held_read g head lent.now)
         out.old }
 {
     let room = out.len();
     if room <= PAGE {
-        let refusal = report::report_refusal(head, tags, units, uses, counted, out);
+        let refusal = report::report_refusal(head, lent, out);
         let mut own = [0u8; PAGE];
-        let part = report::report(head, tags, units, uses, counted, &mut own[..room]);
+        let part = report::report(head, lent, &mut own[..room]);
         let mut page = Page::at_front(out);
         page.put(part);
         return answer_number(refusal);
     }
-    answer_number(report::write_report(head, tags, units, uses, counted, out))
+    answer_number(report::write_report(head, lent, out))
 }
 
 // A report into out, the call beside it, or a reading of the head.
 #[tactic(auto, unfolding(crate::specs::Replay::reading_of))]
-pub fn answer_reading(
-    head: Shedder,
-    tags: &[u16],
-    units: &[UnitRow],
-    uses: &[UseRow],
-    counted: &[SourceRow],
-    reading: Reading,
-    out: &mut [u8],
-) -> u64
+pub fn answer_reading(head: Shedder, lent: &LentRead<'_>, reading: Reading, out: &mut [u8]) -> u64
     ensures value { (g : Hist) → result ≡ calls.read_number
-        (replay.held_with g head tags.now units.now uses.now counted.now)
+        (replay.held_read g head lent.now)
         (replay.reading_of reading out.old) }
     ensures out_after { (g : Hist) → out.new ≡ replay.read_page
-        (replay.held_with g head tags.now units.now uses.now counted.now)
+        (replay.held_read g head lent.now)
         (replay.reading_of reading out.old) out.old }
 {
     match reading {
-        Reading::Report => put_report(head, tags, units, uses, counted, out),
-        Reading::ReportBeside => {
-            answer_number(report::report_refusal(head, tags, units, uses, counted, out))
-        }
+        Reading::Report => put_report(head, lent, out),
+        Reading::ReportBeside => answer_number(report::report_refusal(head, lent, out)),
         Reading::Count(cause) => answer_number(head_readings::cut_batches(head, cause)),
         Reading::Visited => answer_number(head_readings::visited(head)),
         Reading::Level(dim) => answer_number(head_readings::level(head, dim)),

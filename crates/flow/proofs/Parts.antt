@@ -1,5 +1,5 @@
 -- A loop over the dimensions, one part a turn. Assumes nothing.
-use Rattle.std.proofs.Common.{◌≡◌, ℕ, zero, suc, ◌+◌, ◌<◌, ◌≤◌, Bool, true, ◌&&◌, List, length, get_or, set, sym, refl, ap, subst, ◌∙◌, add-one, arith, length-set, get_or-set_other, get_or-set_same}
+use Rattle.std.proofs.Common.{◌≡◌, ℕ, zero, suc, ◌+◌, ◌<◌, ◌≤◌, Bool, true, List, length, get_or, set, sym, refl, ap, subst, ◌∙◌, add-one, arith, length-set, get_or-set_other, get_or-set_same}
 use native.Mathlib.Decide.{ℕ_discrete}
 use lib.Ieee.{Float, nan}
 use Rattle.std.specs.Array.{IsFromFnResultFrom, IsFromFnResult, index_steps}
@@ -12,7 +12,7 @@ use Rattle.std.proofs.lemmas.List.{same_lists}
 use Rattle.std.proofs.lemmas.Fn.{serves_by}
 use denote.Param.Members.{Shared, MutLaws, FnLaws, Called}
 use Rattle.ieee.specs.Doubles.{nothing}
-use Rattle.ieee.proofs.Tests.{both_yes}
+use Rattle.std.proofs.lemmas.Bool.{and_parts}
 use Rattle.flow.specs.declared.Bucket.{Bucket}
 use Rattle.ieee.specs.Extremes.{most}
 use Rattle.flow.specs.Flow.{dims, at, each, bucket_at, upto, largest, all}
@@ -33,14 +33,6 @@ largest_none f = refl
 pub largest_next : (f : ℕ → Float) (n : ℕ) → largest f (n + 1) ≡ most (largest f n) (f n)
 unfolding largest
 largest_next f n = rw add-one
-
-pub all_none : (p : ℕ → Bool) → all p 0 ≡ true
-unfolding all
-all_none p = refl
-
-pub all_next : (p : ℕ → Bool) (n : ℕ) → all p (n + 1) ≡ all p n && p n
-unfolding all
-all_next p n = rw add-one
 
 -- ---- what stands at a dimension
 pub upto_length : {A : Type 0} (f : ℕ → A) (n : ℕ) (xs : List A) → length (upto f n xs) ≡ length xs
@@ -67,10 +59,10 @@ buckets_at f bs d h e = upto_at (record { tokens = nan; burst = nan; rate_per_ms
 pub all-at : (p : ℕ → Bool) (n d : ℕ) → d < n → all p n ≡ true → p d ≡ true
 unfolding all
 all-at p zero d h e = absurd (omega arith)
-all-at p (suc n) d h e = go (λ l. all-at p n d l (both_yes (all p n) (p n) e).0) (ℕ_discrete d n)
+all-at p (suc n) d h e = go (λ l. all-at p n d l (and_parts (all p n) (p n) e).0) (ℕ_discrete d n)
   where
     go : (d < n → p d ≡ true) → Dec (d ≡ n) → p d ≡ true
-    go r (yes q) = ap p q ∙ (both_yes (all p n) (p n) e).1
+    go r (yes q) = ap p q ∙ (and_parts (all p n) (p n) e).1
     go r (no q) = r (omega arith)
 
 pub all_of : (p : ℕ → Bool) (n : ℕ) → ((d : ℕ) → d < n → p d ≡ true) → all p n ≡ true

@@ -51,7 +51,18 @@ pub struct Use {
     pub fresh: u64,
 }
 
-// The dimension at a place.
+// A dimension's place.
+impl From<Dim> for usize {
+    ghost from_gives = { λ dim d. (d ≡ flow.dim_of dim) × (d < flow.dims) };
+
+    #[tactic(auto, unfolding(crate::specs::Flow::dim_of))]
+    fn from(dim: Dim) -> usize {
+        dim as usize
+    }
+}
+
+// The dimension at a place. Not TryFrom: a place comes from a search over the dimensions, so that a caller would have a case that
+// never comes.
 #[tactic(auto, unfolding(crate::specs::Flow::dim_at))]
 pub fn dim_at(d: usize) -> Dim
     ensures { result ≡ flow.dim_at d }

@@ -9,15 +9,15 @@ use lib.Dec.{eqb, leb}
 use borrow.Author.Tests.{eqb-true}
 use Rattle.head.specs.declared.Shedder.{Shedder}
 use Rattle.head.specs.Questions.{is_stamp, tables_whole, head_whole, tags_whole, memory_whole, costs_held, judge_asked, Ready, cut_asked, CutReady}
-use Rattle.ieee.proofs.Tests.{both_yes}
+use Rattle.std.proofs.lemmas.Bool.{and_parts}
 use Rattle.head.proofs.Tests.{zero_yes, one_of}
 use Rattle.head.proofs.Whole.{stamp_of, whole_of}
 
 tables_of : (r n : ℕ) → tables_whole r n ≡ true → r + n ≤ 64
 unfolding tables_whole
 tables_of r n e =
-    let x = both_yes (leb r 64) _ e in
-    let y = both_yes (leb n 64) _ x.1 in
+    let x = and_parts (leb r 64) _ e in
+    let y = and_parts (leb n 64) _ x.1 in
     ⊎_elim (λ (p : eqb (r + n) 64 ≡ true). omega (arith, eqb-true (r + n) 64 p)) (λ (p : eqb (r + n) 0 ≡ true). omega (arith, eqb-true (r + n) 0 p)) (one_of (eqb (r + n) 64) _ y.1)
 
 module _ (h : Shedder) where
@@ -25,9 +25,9 @@ module _ (h : Shedder) where
     pub memory_of : memory_whole h i u s k ≡ true → (i ≡ h.unit_room + k) × (u ≡ h.unit_room) × (s ≡ h.unit_room) × (k ≡ h.counted_room)
     unfolding memory_whole tags_whole
     memory_of e =
-        let a = both_yes (eqb i (u + k)) _ e in
-        let b = both_yes (eqb u h.unit_room) _ a.1 in
-        let d = both_yes (eqb s h.unit_room) _ b.1 in
+        let a = and_parts (eqb i (u + k)) _ e in
+        let b = and_parts (eqb u h.unit_room) _ a.1 in
+        let d = and_parts (eqb s h.unit_room) _ b.1 in
         (omega (arith, eqb-true i (u + k) a.0, eqb-true u h.unit_room b.0), eqb-true u h.unit_room b.0, eqb-true s h.unit_room d.0, eqb-true k h.counted_room d.1)
 
     pub asked_ready : (cost : List ℕ) (stamp : ℕ) → judge_asked h i u s k cost stamp ≡ 0 → Ready h i u s k stamp

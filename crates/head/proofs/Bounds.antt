@@ -3,10 +3,6 @@ use mathlib.Core.Path.{◌≡◌}
 use Prim.Native.Nat.{ℕ, ◌+◌, ◌≤◌, ◌<◌}
 use native.Mathlib.Omega.{arith}
 
--- a bound, carried along equations of its two sides
-pub held_on : {v b h l k : ℕ} → v ≤ b → b ≡ h → h ≤ l → k ≡ l → v ≤ k
-held_on p e q f = omega arith
-
 pub le_by : {a b c : ℕ} → a ≡ b → b ≤ c → a ≤ c
 le_by e p = omega arith
 

@@ -8,7 +8,7 @@ use lib.Dec.{eqb, leb, ltb}
 use borrow.Author.Tests.{ltb-true, ltb-false, eqb-true, eq-eqb, lt-ltb, le-ltb, le-leb}
 use Rattle.head.specs.declared.Shedder.{Shedder}
 use Rattle.head.specs.Questions.{rates_whole, is_stamp, tables_whole, rooms_whole, stamps_whole, head_whole}
-use Rattle.ieee.proofs.Tests.{both_yes}
+use Rattle.std.proofs.lemmas.Bool.{and_parts}
 use Rattle.head.proofs.Tests.{no_yes, one_of, both, no_then, first_yes}
 
 -- ---- each question's part
@@ -27,8 +27,8 @@ tables-is r n e = both (leb r 64) _ (le-leb r 64 (omega (arith, e))) (both (leb 
 pub tables_sum : (r n : ℕ) → tables_whole r n ≡ true → 1 ≤ r → r + n ≡ 64
 unfolding tables_whole
 tables_sum r n e p =
-    let x = both_yes (leb r 64) _ e in
-    let y = both_yes (leb n 64) _ x.1 in
+    let x = and_parts (leb r 64) _ e in
+    let y = and_parts (leb n 64) _ x.1 in
     ⊎_elim (λ (q : eqb (r + n) 64 ≡ true). eqb-true (r + n) 64 q) (λ (q : eqb (r + n) 0 ≡ true). omega (arith, eqb-true (r + n) 0 q)) (one_of (eqb (r + n) 64) _ y.1)
 
 rooms_is : (u c t k : ℕ) → 1 ≤ u → u ≤ 131072 → 2 ≤ c → c ≤ 4097 → t ≤ u → k < c → rooms_whole u c t k ≡ true
@@ -56,12 +56,12 @@ module _ (h : Shedder) where
   pub whole_of : head_whole h ≡ true → Whole
   unfolding head_whole stamps_whole rooms_whole
   whole_of e =
-      let x = both_yes (rates_whole h.flow.rate && stamps_whole h.flow.at_ms h.scan.at_ms h.scan.began_ms h.scan.read_ms) (tables_whole h.scan.remaining h.scan.next && rooms_whole h.unit_room h.counted_room h.tracked h.counted) e in
-      let y = both_yes (rates_whole h.flow.rate) (stamps_whole h.flow.at_ms h.scan.at_ms h.scan.began_ms h.scan.read_ms) x.0 in
-      let z = both_yes (tables_whole h.scan.remaining h.scan.next) (rooms_whole h.unit_room h.counted_room h.tracked h.counted) x.1 in
-      let s = both_yes (is_stamp h.flow.at_ms && is_stamp h.scan.at_ms) (is_stamp h.scan.began_ms && is_stamp h.scan.read_ms) y.1 in
-      let s1 = both_yes (is_stamp h.flow.at_ms) (is_stamp h.scan.at_ms) s.0 in
-      let s2 = both_yes (is_stamp h.scan.began_ms) (is_stamp h.scan.read_ms) s.1 in
+      let x = and_parts (rates_whole h.flow.rate && stamps_whole h.flow.at_ms h.scan.at_ms h.scan.began_ms h.scan.read_ms) (tables_whole h.scan.remaining h.scan.next && rooms_whole h.unit_room h.counted_room h.tracked h.counted) e in
+      let y = and_parts (rates_whole h.flow.rate) (stamps_whole h.flow.at_ms h.scan.at_ms h.scan.began_ms h.scan.read_ms) x.0 in
+      let z = and_parts (tables_whole h.scan.remaining h.scan.next) (rooms_whole h.unit_room h.counted_room h.tracked h.counted) x.1 in
+      let s = and_parts (is_stamp h.flow.at_ms && is_stamp h.scan.at_ms) (is_stamp h.scan.began_ms && is_stamp h.scan.read_ms) y.1 in
+      let s1 = and_parts (is_stamp h.flow.at_ms) (is_stamp h.scan.at_ms) s.0 in
+      let s2 = and_parts (is_stamp h.scan.began_ms) (is_stamp h.scan.read_ms) s.1 in
       let a = no_yes (ltb h.unit_room 1) _ z.1 in
       let b = no_yes (ltb 131072 h.unit_room) _ a.1 in
       let d = no_yes (ltb h.counted_room 2) _ b.1 in

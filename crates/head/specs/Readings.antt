@@ -4,17 +4,11 @@ use Rattle.std.specs.Float.Ieee as Ieee
 use Rattle.flow.specs.declared.Dim.{Dim}
 use Rattle.flow.specs.Flow.{dim_of}
 use Rattle.head.specs.declared.Shedder.{Shedder}
-use Rattle.head.specs.declared.Cause.{Cause}
-use Rattle.head.specs.declared.Cause.TheVariants as cause
+use Rattle.store.specs.declared.Cause.{Cause}
+unfoldable pub use Rattle.store.specs.Causes.{index_of}
 use Rattle.head.specs.declared.Refusal.{Refusal}
 use Rattle.head.specs.declared.Refusal.TheVariants.{Head}
 use Rattle.head.specs.Questions.{is_unbounded, head_whole}
-
--- a cause's place among the counts
-unfoldable pub index_of : Cause → ℕ
-index_of cause.ReceiverCeiling = 0
-index_of cause.OverShare = 1
-index_of cause.RelayRate = 2
 
 unfoldable pub visited : Shedder → Result ℕ Refusal
 visited h = cond (head_whole h) (Ok h.visits) (Err Head)

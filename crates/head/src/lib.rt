@@ -1,20 +1,19 @@
 // The head of the Shedder: document 01's questions about it, and the start.
 #![tactic(auto)]
 
-ghost use Rattle.std.specs.Prelude.{◌≡◌, ◌&&◌, ◌||◌, ◌<◌, length};
-ghost use Rattle.store.specs.Store as store;
-ghost use Rattle.wants.specs.Wants as wants;
+ghost use Rattle.std.specs.Prelude.{◌≡◌};
+ghost use Rattle.store.specs.Held.{of_sizes, read_sizes};
+ghost use Rattle.wants.specs.Held.{wants_held, SameArrays};
 ghost use Rattle.head.specs.Questions as asked;
 ghost use Rattle.head.specs.Answers as answers;
-ghost use Rattle.head.specs.Readings as readings;
 ghost use Rattle.head.specs.Start as starts;
 ghost use Rattle.head.specs.Bits.{SameButNanBits};
 
 use flow::{Bucket, DIMS, RATE_MOST, UNBOUNDED, Use};
 use sender::TABLES;
-pub use store::CAUSES;
-use store::{SourceRow, UnitRow, UseRow};
-use wants::{Counts, Sums};
+pub use store::{CAUSES, Cause};
+use store::{LentRead, Sizes};
+use wants::Histogram;
 
 // Units tracked at most. Every further one shares overflow's record.
 pub const UNITS_TRACKED: usize = 1 << 17;
@@ -82,14 +81,6 @@ pub struct Shedder {
     pub counted: usize,
     pub unit_room: usize,
     pub counted_room: usize,
-}
-
-// Why a batch was cut.
-#[derive(Clone, Copy)]
-pub enum Cause {
-    ReceiverCeiling,
-    OverShare,
-    RelayRate,
 }
 
 // Why a call was refused: the first of its questions that was answered no, by its number.
@@ -208,64 +199,50 @@ pub fn head_whole(h: Shedder) -> bool
 
 // A tag for each record, those of the counted records behind those of the unit records.
 #[tactic(auto, unfolding(crate::specs::Questions::tags_whole))]
-fn tags_whole(tags: usize, units: usize, counted: usize) -> bool
-    ensures { result ≡ asked.tags_whole tags units counted }
+fn tags_whole(sizes: Sizes) -> bool
+    ensures { result ≡ asked.tags_whole sizes.tags sizes.units sizes.counted }
 {
-    units <= tags && tags - units == counted
+    sizes.units <= sizes.tags && sizes.tags - sizes.units == sizes.counted
 }
 
 // Question 4.
 #[tactic(auto, unfolding(crate::specs::Questions::memory_whole))]
-pub fn memory_whole(h: Shedder, tags: usize, units: usize, uses: usize, counted: usize) -> bool
-    ensures { result ≡ asked.memory_whole h tags units uses counted }
+pub fn memory_whole(h: Shedder, sizes: Sizes) -> bool
+    ensures { result ≡ of_sizes (asked.memory_whole h) sizes }
 {
-    tags_whole(tags, units, counted)
-        && units == h.unit_room
-        && uses == h.unit_room
-        && counted == h.counted_room
+    tags_whole(sizes)
+        && sizes.units == h.unit_room
+        && sizes.uses == h.unit_room
+        && sizes.counted == h.counted_room
 }
 
 // Question 2.
 #[tactic(auto, unfolding(crate::specs::Questions::sizes_whole))]
-fn sizes_whole(tags: usize, units: usize, uses: usize, counted: usize) -> bool
-    ensures { result ≡ asked.sizes_whole tags units uses counted }
+fn sizes_whole(sizes: Sizes) -> bool
+    ensures { result ≡ of_sizes asked.sizes_whole sizes }
 {
-    tags_whole(tags, units, counted) && uses == units && rooms_whole(units, counted, 0, 0)
+    tags_whole(sizes) && sizes.uses == sizes.units && rooms_whole(sizes.units, sizes.counted, 0, 0)
 }
 
 // The questions of a call in their order; the first answered no refuses it.
 #[tactic(auto, unfolding(crate::specs::Questions::start_asked, crate::specs::Answers::answer_number, crate::specs::Answers::number_of))]
-fn start_asked(
-    rate: [u64; DIMS],
-    tags: usize,
-    units: usize,
-    uses: usize,
-    counted: usize,
-) -> Result<(), Refusal>
-    ensures { answers.answer_number result ≡ asked.start_asked rate tags units uses counted }
+fn start_asked(rate: [u64; DIMS], sizes: Sizes) -> Result<(), Refusal>
+    ensures { answers.answer_number result ≡ of_sizes (asked.start_asked rate) sizes }
 {
     if !rates_whole(rate) {
         return Err(Refusal::Rates);
     }
-    if !sizes_whole(tags, units, uses, counted) {
+    if !sizes_whole(sizes) {
         return Err(Refusal::Sizes);
     }
     Ok(())
 }
 
 #[tactic(auto, unfolding(crate::specs::Questions::judge_asked, crate::specs::Questions::cut_asked, crate::specs::Answers::answer_number, crate::specs::Answers::number_of))]
-pub fn judge_asked(
-    h: Shedder,
-    tags: usize,
-    units: usize,
-    uses: usize,
-    counted: usize,
-    cost: [u64; DIMS],
-    stamp: u64,
-) -> Result<(), Refusal>
-    ensures { answers.answer_number result ≡ asked.judge_asked h tags units uses counted cost stamp }
+pub fn judge_asked(h: Shedder, sizes: Sizes, cost: [u64; DIMS], stamp: u64) -> Result<(), Refusal>
+    ensures { answers.answer_number result ≡ of_sizes (asked.judge_asked h) sizes cost stamp }
 {
-    cut_asked(h, tags, units, uses, counted, cost)?;
+    cut_asked(h, sizes, cost)?;
     if !is_stamp(stamp) {
         return Err(Refusal::Stamp);
     }
@@ -273,18 +250,11 @@ pub fn judge_asked(
 }
 
 #[tactic(auto, unfolding(crate::specs::Questions::cut_asked, crate::specs::Questions::read_asked, crate::specs::Answers::answer_number, crate::specs::Answers::number_of))]
-pub fn cut_asked(
-    h: Shedder,
-    tags: usize,
-    units: usize,
-    uses: usize,
-    counted: usize,
-    cost: [u64; DIMS],
-) -> Result<(), Refusal>
-    ensures { answers.answer_number result ≡ asked.cut_asked h tags units uses counted cost }
+pub fn cut_asked(h: Shedder, sizes: Sizes, cost: [u64; DIMS]) -> Result<(), Refusal>
+    ensures { answers.answer_number result ≡ of_sizes (asked.cut_asked h) sizes cost }
 {
     read_asked(h)?;
-    if !memory_whole(h, tags, units, uses, counted) {
+    if !memory_whole(h, sizes) {
         return Err(Refusal::Memory);
     }
     if !costs_held(cost) {
@@ -358,46 +328,27 @@ fn opening(rate: [u64; DIMS], ceiling: [u64; DIMS], units: usize, counted: usize
 // A head for the rates and the ceiling, over the memory lent; no record is written. A refused start leaves the head given.
 pub fn start(
     head: Shedder,
-    tags: &[u16],
-    units: &[UnitRow],
-    uses: &[UseRow],
-    counts: &mut Counts,
-    sums: &mut Sums,
-    counted: &[SourceRow],
+    lent: &LentRead<'_>,
+    histogram: &mut Histogram<'_>,
     rate: [u64; DIMS],
     ceiling: [u64; DIMS],
 ) -> Starting
     ensures same_but_nan_bits { SameButNanBits
-        (starts.beginning result (wants.hist counts.new sums.new))
-        (starts.start head (length tags.now) (length units.now) (length uses.now) (length counted.now)
-        (wants.hist counts.old sums.old) rate ceiling) }
+        (starts.beginning result (wants_held histogram.new))
+        (of_sizes (starts.start head) (read_sizes lent.now) (wants_held histogram.old) rate ceiling) }
     ensures answer_value { answers.start_number result.answer
-        ≡ asked.start_asked rate (length tags.now) (length units.now) (length uses.now) (length counted.now) }
+        ≡ of_sizes (asked.start_asked rate) (read_sizes lent.now) }
+    ensures arrays { SameArrays histogram.old histogram.new }
 {
-    if let Err(refusal) = start_asked(rate, tags.len(), units.len(), uses.len(), counted.len()) {
+    if let Err(refusal) = start_asked(rate, lent.sizes()) {
         return Starting {
             answer: Err(refusal),
             head,
         };
     }
-    wants::clear(counts, sums);
+    histogram.clear();
     Starting {
         answer: Ok(()),
-        head: opening(rate, ceiling, units.len(), counted.len()),
-    }
-}
-
-// ---- the causes
-
-// A cause's place among the counts.
-#[tactic(auto, unfolding(crate::specs::Readings::index_of))]
-pub fn index_of(cause: Cause) -> usize
-    ensures value { result ≡ readings.index_of cause }
-    ensures upper_bound { result < store.«CAUSES» }
-{
-    match cause {
-        Cause::ReceiverCeiling => 0,
-        Cause::OverShare => 1,
-        Cause::RelayRate => 2,
+        head: opening(rate, ceiling, lent.units.len(), lent.counted.len()),
     }
 }

@@ -1,26 +1,16 @@
 // The readings of a head, each through question 3: the tables visited, the batches cut for a cause, a level, a rate, whether the relay is bounded.
 #![tactic(auto)]
 
-ghost use Rattle.flow.specs.Flow.{dims, dim_of};
-ghost use Rattle.std.specs.Prelude.{◌≡◌, ◌<◌};
+ghost use Rattle.std.specs.Prelude.{◌≡◌};
 ghost use Rattle.head.specs.Questions as asked;
 ghost use Rattle.head.specs.Answers as answers;
 ghost use Rattle.head.specs.Readings as readings;
 ghost use Rattle.head.specs.Bits.{SameButNanBits};
 
 use flow::Dim;
-use head::{Cause, Refusal, Shedder, index_of, is_unbounded, read_asked};
+use head::{Cause, Refusal, Shedder, is_unbounded, read_asked};
 
-// A dimension's place.
-fn dim_of(dim: Dim) -> usize
-    ensures value { result ≡ dim_of dim }
-    ensures upper_bound { result < dims }
-{
-    match dim {
-        Dim::Receptions => 0,
-        Dim::Bytes => 1,
-    }
-}
+// They share their first line, and stay five functions: each reads another part of the head, by its own definition.
 
 // Tables that all scans have visited.
 #[tactic(auto, using(head::proofs::Reading::read_refused, head::proofs::Reading::read_answered), unfolding(head::specs::Readings::visited, head::specs::Answers::answer_number))]
@@ -39,7 +29,7 @@ pub fn cut_batches(head: Shedder, cause: Cause) -> Result<u64, Refusal>
     ensures result_value { answers.reading_number result ≡ asked.read_asked head }
 {
     read_asked(head)?;
-    Ok(head.batches[index_of(cause)])
+    Ok(head.batches[usize::from(cause)])
 }
 
 // The level of a dimension, as the last scan left it.
@@ -49,7 +39,7 @@ pub fn level(head: Shedder, dim: Dim) -> Result<f64, Refusal>
     ensures result_value { answers.level_number result ≡ asked.read_asked head }
 {
     read_asked(head)?;
-    Ok(head.level[dim_of(dim)])
+    Ok(head.level[usize::from(dim)])
 }
 
 // The rate of a dimension, given at the start; none for an unbounded relay.
@@ -62,7 +52,7 @@ pub fn rate(head: Shedder, dim: Dim) -> Result<Option<u64>, Refusal>
     if is_unbounded(head.flow.rate) {
         return Ok(None);
     }
-    Ok(Some(head.flow.rate[dim_of(dim)]))
+    Ok(Some(head.flow.rate[usize::from(dim)]))
 }
 
 // Whether the relay sheds for its rate at all.

@@ -27,9 +27,9 @@ use Rattle.sender.specs.declared.Name.{Name}
 use Rattle.sender.specs.Sender.{name_of}
 use Rattle.store.specs.Store.{Rows, rows}
 use Rattle.wants.specs.Wants.{Hist}
-use Rattle.ieee.proofs.Tests.{both_yes}
+use Rattle.std.proofs.lemmas.Bool.{and_parts}
 use Rattle.head.specs.declared.Shedder.{Shedder}
-use Rattle.head.specs.declared.Cause.{Cause}
+use Rattle.store.specs.declared.Cause.{Cause}
 use Rattle.head.specs.Questions.{is_rate, is_max, all_rates, is_unbounded, rates_whole, head_whole, start_asked, judge_asked, cut_asked}
 use Rattle.head.specs.Start.{first_levels, opening, start}
 use Rattle.head.proofs.Tests.{zero_yes}
@@ -54,7 +54,7 @@ of_max n e = top (eqb-true n 18446744073709551615 e)
 
 of_rate : (n : ℕ) → is_rate n ≡ true → Rate n
 unfolding is_rate
-of_rate n e = let y = both_yes (leb 1 n) (leb n 1099511627776) e in some (leb-true 1 n y.0) (omega (arith, leb-true n 1099511627776 y.1))
+of_rate n e = let y = and_parts (leb 1 n) (leb n 1099511627776) e in some (leb-true 1 n y.0) (omega (arith, leb-true n 1099511627776 y.1))
 
 each_rate : (rate : List ℕ) → rates_whole rate ≡ true → (d : ℕ) → d < dims → Rate (get_or rate d 0)
 unfolding is_unbounded all_rates

@@ -20,7 +20,7 @@ use Rattle.store.specs.Store.{Rows, rows, find}
 use Rattle.cut_sources.specs.Counted.{Sources, sources, counted_find, counted_up, counted_add}
 use Rattle.cut_sources.proofs.Pruning.{frees}
 use Rattle.head.specs.declared.Shedder.{Shedder}
-use Rattle.head.specs.declared.Cause.{Cause}
+use Rattle.store.specs.declared.Cause.{Cause}
 use Rattle.head.specs.Questions.{is_unbounded, head_whole, judge_asked, cut_asked}
 use Rattle.head.specs.Readings.{index_of}
 use Rattle.head.proofs.Asked.{asked_ready}

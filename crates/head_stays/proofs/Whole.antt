@@ -12,7 +12,7 @@ use Rattle.wants.specs.Wants.{Hist}
 use Rattle.wants.specs.Wants as wants
 use Rattle.head.specs.declared.Shedder.{Shedder}
 use Rattle.head.specs.Questions.{rates_whole, is_stamp, tables_whole, rooms_whole, stamps_whole, head_whole, tags_whole, memory_whole, sizes_whole, start_asked, judge_asked, cut_asked}
-use Rattle.ieee.proofs.Tests.{both_yes}
+use Rattle.std.proofs.lemmas.Bool.{and_parts}
 use Rattle.head.proofs.Tests.{zero_yes, both}
 use Rattle.head.proofs.Whole.{Whole, tables-is, tables_sum}
 use Rattle.head.specs.Start.{Beginning, opening, start}
@@ -35,9 +35,9 @@ cut_memory h i u s k cost e =
 pub memory_counted : (h : Shedder) (i u s k : ℕ) → memory_whole h i u s k ≡ true → k ≡ h.counted_room
 unfolding memory_whole
 memory_counted h i u s k e =
-    let a = both_yes (tags_whole i u k) _ e in
-    let b = both_yes (eqb u h.unit_room) _ a.1 in
-    let d = both_yes (eqb s h.unit_room) _ b.1 in
+    let a = and_parts (tags_whole i u k) _ e in
+    let b = and_parts (eqb u h.unit_room) _ a.1 in
+    let d = and_parts (eqb s h.unit_room) _ b.1 in
     eqb-true k h.counted_room d.1
 
 -- ---- a start
@@ -46,8 +46,8 @@ unfolding start_asked sizes_whole opening head_whole stamps_whole is_stamp table
 opening_whole rate ceiling tags units uses counted e =
     let a = zero_yes (rates_whole rate) _ 0 e in
     let b = zero_yes (sizes_whole tags units uses counted) 0 1 a.1 in
-    let d = both_yes (tags_whole tags units counted) _ b.0 in
-    let f = both_yes (eqb uses units) _ d.1 in
+    let d = and_parts (tags_whole tags units counted) _ b.0 in
+    let f = and_parts (eqb uses units) _ d.1 in
     both (rates_whole rate && true) (true && rooms_whole units counted 0 0) (both (rates_whole rate) true a.0 refl) f.1
 
 start_case : (b : Bool) (x y : Beginning) → (b ≡ true → head_whole x.head ≡ true) → head_whole y.head ≡ true → head_whole (cond b x y).head ≡ true

@@ -4,7 +4,7 @@ use Rattle.sender.specs.declared.Unit as unit
 use Rattle.store.specs.Store.{Rows}
 use Rattle.wants.specs.Wants.{Hist}
 use Rattle.head.specs.declared.Shedder.{Shedder}
-use Rattle.head.specs.declared.Cause.{Cause}
+use Rattle.store.specs.declared.Cause.{Cause}
 use Rattle.head.specs.Questions.{head_whole, start_asked}
 use Rattle.head.specs.Start.{start}
 use Rattle.scan_trim.specs.Laws.{Trims, Levels}

@@ -5,7 +5,7 @@ use Prim.Native.Nat.{ℕ, ◌*◌, ◌≤◌, ◌<◌, min, max}
 use native.Mathlib.Nat.{le_of_lt, le_of_eq, mul-lt-mul_of_pos_right, lt_of_mul-lt-mul_right, mul-pos, eq_of_mul-eq-mul_right, eq-or-lt_of_le}
 use native.Mathlib.Omega.{arith}
 use mathlib.Core.Bool.{Bool, true, false, not, ◌||◌, cond}
-use lib.Dec.{T, leb, ltb, eqb, leb→le, le→leb, ltb→lt, lt→ltb, eqb→eq, nltb→le, nleb→lt}
+use lib.Dec.{T, leb, ltb, eqb, leb→le, le→leb, ltb→lt, lt→ltb, eqb→eq, nltb→le}
 use lib.Ieee.{Float, nan, inf, fin, up, down, lt, le, eq}
 use lib.Ieee.Fits.{eq→eqb, down_pos}
 use Rattle.std.proofs.Math.Bool.{and-true}
@@ -19,10 +19,6 @@ same_test true true a b = refl
 same_test true false a b = absurd (a tt)
 same_test false true a b = absurd (b tt)
 same_test false false a b = refl
-
--- a branch's `taken` as the test that passed
-pub passed : {b : Bool} → b ≡ true → T b
-passed e = subst T (sym e) tt
 
 -- ---- a and b are u and v times one number, k / l: so they compare alike
 module _ (a b l u v k : ℕ) (L : 0 < l) (K : 0 < k) (e : a * l ≡ u * k) (f : b * l ≡ v * k) where
@@ -115,9 +111,6 @@ module _ (x y : Float) (a : Amount x) (b : Amount y) where
   pub units_le : units x ≤ units y → T (le x y)
   units_le h = subst T (sym (le_is x y a b)) (le→leb (units x) (units y) h)
 
-  pub not_le_units : T (not (le x y)) → units y < units x
-  not_le_units t = nleb→lt (units x) (units y) (subst (λ (t : Bool). T (not t)) (le_is x y a b) t)
-
 -- ---- against the infinity, which is above every amount
 pub lt_inf : (x : Float) → Amount x → lt x (inf false) ≡ true
 unfolding lt
@@ -164,12 +157,6 @@ pub lt_test : {x y : Float} {u v : ℕ} → Is x u → Is y v → Test (lt x y) 
 lt_test {x} {y} a b = record {
   pass = λ t. let h = lt_units x y a.amount b.amount t in omega (arith, a.worth, b.worth);
   fail = λ t. let h = not_lt_units x y a.amount b.amount t in omega (arith, a.worth, b.worth);
-}
-
-pub le_test : {x y : Float} {u v : ℕ} → Is x u → Is y v → Test (le x y) u v
-le_test {x} {y} a b = record {
-  pass = λ t. let h = le_units x y a.amount b.amount t in omega (arith, a.worth, b.worth);
-  fail = λ t. let h = not_le_units x y a.amount b.amount t in omega (arith, a.worth, b.worth);
 }
 
 -- `cond (lt x y) x y`: `min_is (lt_test a b) a b`. `cond (lt y x) y x`: `min_is (lt_test b a) b a`.

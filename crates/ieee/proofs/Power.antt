@@ -52,9 +52,6 @@ pub power_split : {j k : ℕ} → j ≤ k → power k ≡ power (k - j) * power 
 power_split {j} {k} h = let e : k ≡ k - j + j = omega arith in ap power e ∙ power_add (k - j) j
 
 -- ---- multiples of 2 ^ g
-pub grid_zero : (g : ℕ) → OnGrid g 0
-grid_zero g = record { count = 0; is = omega arith }
-
 pub grid_add : {g m n : ℕ} → OnGrid g m → OnGrid g n → OnGrid g (m + n)
 grid_add {g} a b = record { count = a.count + b.count; is = omega (arith, a.is, b.is) }
 

@@ -68,14 +68,10 @@ value_amount (inf s) u f h = absurd h
 value_amount (fin true m e) u f h = absurd (true≢false h.0)
 value_amount (fin false m e) u f h = record { amount = record { fit = f; sign = tt }; worth = value_units (fin false m e) false u h }
 
--- a value that is written out: m * 2 ^ k, and m / 2 ^ (k + 1)
+-- a value that is written out: m * 2 ^ k
 pub whole_is : (m k : ℕ) → T (fits binary64 (fin false m (pos k))) → Is (fin false m (pos k)) (m * power (k + 1074))
 whole_is m k f = value_amount (fin false m (pos k)) (m * power (k + 1074)) f
     (refl, mul_assoc m (2 ^ k) (power 1074) ∙ ap (λ (x : ℕ). m * x) (ap (λ (x : ℕ). x * power 1074) (power-is k) ∙ sym (power_add k 1074)) ∙ sym (mul-one (m * power (k + 1074))))
-
-pub part_is : (m k : ℕ) → k < 1074 → T (fits binary64 (fin false m (negsuc k))) → Is (fin false m (negsuc k)) (m * power (1074 - suc k))
-part_is m k h f = value_amount (fin false m (negsuc k)) (m * power (1074 - suc k)) f
-    (refl, ap (λ (x : ℕ). x * power 1074) (mul-one m) ∙ ap (λ (x : ℕ). m * x) (power_split h ∙ ap (λ (x : ℕ). power (1074 - suc k) * x) (sym (power-is (suc k)))) ∙ sym (mul_assoc m (power (1074 - suc k)) (2 ^ suc k)))
 
 -- an amount has at most 53 digits and zeros behind them
 pub amount_digits : (x : Float) → Amount x → Digits (units x)
@@ -107,10 +103,6 @@ zero_is = subst (Is (fin false 0 (pos 0))) (zero-mul (power 1074)) (whole_is 0 0
 pub one_is : Is (of_bits binary64 0x3ff0_0000_0000_0000) (power 1074)
 unfolding of_bits fits
 one_is = subst (Is (fin false 1 (pos 0))) (one-mul (power 1074)) (whole_is 1 0 tt)
-
-pub half_is : Is (of_bits binary64 0x3fe0_0000_0000_0000) (power 1073)
-unfolding of_bits fits
-half_is = subst (Is (fin false 1 (negsuc 0))) (one-mul (power 1073)) (part_is 1 0 (lit< tt) tt)
 
 pub four_is : Is (of_bits binary64 0x4010_0000_0000_0000) (power 1076)
 unfolding of_bits fits

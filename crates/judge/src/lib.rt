@@ -1,22 +1,22 @@
 // A judgement: the head by value, the records lent.
 #![tactic(auto)]
 
-ghost use Rattle.std.specs.Prelude.{◌≡◌, ◌≤◌, length};
-ghost use Rattle.sender.specs.Sender as sender;
-ghost use Rattle.store.specs.Held.{held, SameSlices};
-ghost use Rattle.store.specs.Store as store;
-ghost use Rattle.wants.specs.Wants as wants;
+ghost use Rattle.std.specs.Prelude.{◌≡◌, ℕ, ◌<◌, ◌≤◌, length};
+ghost use Rattle.std.specs.Option.{IfSome, unwrap_or};
+ghost use Rattle.store.specs.Held.{held, SameSlices, lent_rows, lent_sizes, of_sizes, SameLent};
+ghost use Rattle.wants.specs.Held.{SameArrays};
 ghost use Rattle.head.specs.Answers as answers;
 ghost use Rattle.head.specs.Questions as asked;
 ghost use Rattle.head.specs.Bits.{SameButNanBits};
 ghost use Rattle.judge.specs.Judging as judging;
+ghost use Rattle.judge.specs.Lending.{lent_memory};
 
 use flow::{DIMS, Use};
 use head::{Flow, Refusal, Shedder};
-use sender::{Name, Unit};
-use store::{Records, SourceRow, UnitRow, UseRow};
+use sender::{Named, Unit};
+use store::{Lent, Records};
 use verdict::{Outcome, Rule, Ruled, Verdict};
-use wants::{Counts, Sums};
+use wants::Histogram;
 
 // What a judgement answers, the rule that decided it (none where it was refused), and the head after it.
 #[derive(Clone, Copy)]
@@ -35,13 +35,13 @@ fn raised(xs: [f64; DIMS], cost: [f64; DIMS]) -> [f64; DIMS]
 }
 
 // The rank of the record used: the unit's, by its hash, or overflow's.
-fn rank_at(hash: u64, at: usize, room: usize) -> f64
-    ensures { result ≡ judging.rank_at hash at room }
+#[tactic(auto, unfolding(crate::specs::Judging::rank_at))]
+fn rank_at(hash: u64, at: Option<usize>) -> f64
+    ensures { (room : ℕ) → IfSome at (λ i. i < room) → result ≡ judging.rank_at hash (unwrap_or at room) room }
 {
-    if at < room {
-        sender::rank_of_hash(hash)
-    } else {
-        sender::rank(Unit::Overflow)
+    match at {
+        Some(_) => sender::rank_of_hash(hash),
+        None => sender::rank(Unit::Overflow),
     }
 }
 
@@ -100,10 +100,7 @@ pub struct Passed {
 fn judged(
     head: Shedder,
     records: &mut Records<'_>,
-    unit: Unit,
-    hash: u64,
-    name: Name,
-    i: usize,
+    named: Named,
     cost: [f64; DIMS],
     clock: u64,
 ) -> Passed
@@ -111,22 +108,18 @@ fn judged(
     requires units_len { length records.old.units.now ≡ head.unit_room }
     requires uses_len { length records.old.uses.now ≡ head.unit_room }
     requires tracked_bound { head.tracked ≤ head.unit_room }
-    requires name_value { name ≡ sender.name_of unit }
-    requires i_value { i ≡ store.find records.old.tags.now records.old.units.now name head.tracked }
-    requires hash_value { hash ≡ sender.hash_of unit }
     ensures uses_after { judging.passed result (held records.new)
-        ≡ judging.judged head (held records.old) unit cost clock }
+        ≡ judging.judged head (held records.old) named.unit cost clock }
     ensures tracked_bound_2 { result.head.tracked ≤ head.unit_room }
     ensures counted_value { result.head.counted ≡ head.counted }
     ensures unit_room_value { result.head.unit_room ≡ head.unit_room }
     ensures scan_value { result.head.scan ≡ head.scan }
-    ensures rule_value { result.rule ≡ judging.ruled head (held records.old) unit cost clock }
+    ensures rule_value { result.rule ≡ judging.ruled head (held records.old) named.unit cost clock }
     ensures slices { SameSlices records.old records.new }
 {
-    let room = head.unit_room;
-    let p = store_entry::entry(records, head.tracked, room, unit, name, i, clock);
+    let p = store_entry::entry(records, head.tracked, named, clock);
     let used = store_entry::used_at(records, head.overflow, p.at);
-    let rank = rank_at(hash, p.at, room);
+    let rank = rank_at(named.hash, p.at);
     let r = ruled(head.flow, head.level, used, rank, cost, clock);
     let overflow = store_entry::put_back(records, head.overflow, p.at, r.outcome.used);
     let flow = flowed(head.flow, r.outcome, cost, clock);
@@ -145,42 +138,34 @@ fn judged(
 // A judgement of a bounded relay, once the questions are answered yes: verdict, count, scan.
 fn bounded(
     head: Shedder,
-    records: &mut Records<'_>,
-    counts: &mut Counts,
-    sums: &mut Sums,
-    counted: &mut [SourceRow],
-    unit: Unit,
-    hash: u64,
-    name: Name,
-    i: usize,
+    lent: &mut Lent<'_>,
+    histogram: &mut Histogram<'_>,
+    named: Named,
     cost: [u64; DIMS],
     stamp: u64,
 ) -> Judgement
-    requires hash_value { hash ≡ sender.hash_of unit }
-    requires name_value { name ≡ sender.name_of unit }
-    requires i_value { i ≡ store.find records.old.tags.now records.old.units.now name head.tracked }
-    requires ready { asked.Ready head (length records.old.tags.now) (length records.old.units.now) (length records.old.uses.now) (length counted.old) stamp }
-    ensures counted_after { judging.judgement result
-        (judging.memory (held records.new) (wants.hist counts.new sums.new) counted.new)
-        ≡ judging.bounded head
-        (judging.memory (held records.old) (wants.hist counts.old sums.old) counted.old) unit cost stamp }
+    requires { asked.Ready head (length lent.old.tags.now) (length lent.old.units.now) (length lent.old.uses.now) (length lent.old.counted.now) stamp }
+    ensures memory_after { judging.judgement result (lent_memory lent.new histogram.new)
+        ≡ judging.bounded head (lent_memory lent.old histogram.old) named.unit cost stamp }
     ensures answer_value { answers.judge_number result.answer ≡ 0 }
-    ensures ruling_value { result.ruling ≡ judging.bounded_ruling head (held records.old) unit cost stamp }
-    ensures slices { SameSlices records.old records.new }
+    ensures ruling_value { result.ruling ≡ judging.bounded_ruling head (lent_rows lent.old) named.unit cost stamp }
+    ensures slices { SameLent lent.old lent.new }
+    ensures arrays { SameArrays histogram.old histogram.new }
 {
     let clock = flow::later(stamp, head.flow.at_ms);
-    let p = judged(
-        head,
-        records,
-        unit,
-        hash,
-        name,
-        i,
-        flow::numbers(cost),
-        clock,
-    );
-    let t = cut_counts::count_verdict(p.head, records.tags, counted, name, p.verdict, cost);
-    let s = scan::scanned(t, records, counts, sums, clock);
+    let mut records = Records {
+        tags: &mut *lent.tags,
+        units: &mut *lent.units,
+        uses: &mut *lent.uses,
+    };
+    let p = judged(head, &mut records, named, flow::numbers(cost), clock);
+    let t = cut_counts::count_verdict(p.head, lent, named.name, p.verdict, cost);
+    let mut records = Records {
+        tags: &mut *lent.tags,
+        units: &mut *lent.units,
+        uses: &mut *lent.uses,
+    };
+    let s = scan::scanned(t, &mut records, histogram, clock);
     Judgement {
         answer: Ok(p.verdict),
         ruling: Some(p.rule),
@@ -191,36 +176,23 @@ fn bounded(
 // Whether a unit's batch of this cost, stamped so, is admitted, and by which rule. A cut is counted. A refusal changes nothing.
 pub fn judge(
     head: Shedder,
-    tags: &mut [u16],
-    units: &mut [UnitRow],
-    uses: &mut [UseRow],
-    counts: &mut Counts,
-    sums: &mut Sums,
-    counted: &mut [SourceRow],
+    lent: &mut Lent<'_>,
+    histogram: &mut Histogram<'_>,
     unit: Unit,
     cost: [u64; DIMS],
     stamp: u64,
 ) -> Judgement
     ensures same_but_nan_bits { SameButNanBits
-        (judging.judgement result
-        (judging.memory (store.rows tags.new units.new uses.new) (wants.hist counts.new sums.new) counted.new))
-        (judging.judge head
-        (judging.memory (store.rows tags.old units.old uses.old) (wants.hist counts.old sums.old) counted.old) unit cost stamp) }
+        (judging.judgement result (lent_memory lent.new histogram.new))
+        (judging.judge head (lent_memory lent.old histogram.old) unit cost stamp) }
     ensures answer_value { answers.judge_number result.answer
-        ≡ asked.judge_asked head (length tags.old) (length units.old) (length uses.old) (length counted.old) cost stamp }
+        ≡ of_sizes (asked.judge_asked head) (lent_sizes lent.old) cost stamp }
     ensures same_but_nan_bits_2 { SameButNanBits result.ruling
-        (judging.ruling head
-        (judging.memory (store.rows tags.old units.old uses.old) (wants.hist counts.old sums.old) counted.old) unit cost stamp) }
+        (judging.ruling head (lent_memory lent.old histogram.old) unit cost stamp) }
+    ensures slices { SameLent lent.old lent.new }
+    ensures arrays { SameArrays histogram.old histogram.new }
 {
-    if let Err(refusal) = head::judge_asked(
-        head,
-        tags.len(),
-        units.len(),
-        uses.len(),
-        counted.len(),
-        cost,
-        stamp,
-    ) {
+    if let Err(refusal) = head::judge_asked(head, lent.sizes(), cost, stamp) {
         return Judgement {
             answer: Err(refusal),
             ruling: None,
@@ -234,21 +206,5 @@ pub fn judge(
             head,
         };
     }
-    let hash = sender::hash_of(unit);
-    let name = sender::name_by_hash(unit, hash);
-    let mut records = Records { tags, units, uses };
-    let i = store_search::find(&records, head.tracked, name);
-    bounded(
-        head,
-        &mut records,
-        counts,
-        sums,
-        counted,
-        unit,
-        hash,
-        name,
-        i,
-        cost,
-        stamp,
-    )
+    bounded(head, lent, histogram, Named::of(unit), cost, stamp)
 }

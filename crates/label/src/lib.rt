@@ -15,7 +15,8 @@ use text::Page;
 // The longest label, that of a key.
 pub const LABEL_MOST: usize = 68;
 
-// Put by the functions of text and not by `write!`, whose contract says what is written where it answers Ok, and not that it
+// Each of these answers the length of its text in the caller's array, since there is no heap; `Label` has both as one value. They put
+// by the functions of text and not by `write!`, whose contract says what is written where it answers Ok, and not that it
 // does: a label is written for each unit.
 #[tactic(auto, using(crate::proofs::Labels::five_written, text::proofs::Numbers::length_word), unfolding(crate::specs::Label::key_label))]
 fn key_text(key: PublicKey, out: &mut [u8; LABEL_MOST]) -> usize
@@ -78,7 +79,8 @@ fn put_at_front(unit: Unit, out: &mut [u8; LABEL_MOST]) -> usize
     }
 }
 
-// The label at the front of out, which has room for each; every byte behind it is as it was. The answer is its length.
+// The label at the front of out, which has room for each; every byte behind it is as it was. The answer is its length. (The
+// array is the caller's, since there is no heap; `Label` is array and length as one value.)
 pub fn label_text(unit: Unit, out: &mut [u8; LABEL_MOST]) -> usize
     ensures prefix_len { IsPrefixLen result out.new }
     ensures out_after { take result out.new ≡ label unit }

@@ -130,6 +130,7 @@ found s =
     sym (some_if (same (label (unit_in s)) s) (unit_in s))
     ∙ ap (λ (t : Bool). then_some t (unit_in s)) (sym (same_is (label (unit_in s)) s))
 
+-- a text is a label where a unit is read of it
 pub is_some_parse : (s : List ℕ) → is_some (parse s) ≡ is_label s
 unfolding parse
 is_some_parse s = by (is_label s)

@@ -4,7 +4,7 @@
 ghost use Rattle.std.specs.Prelude.{◌≡◌, ◌+◌, ◌≤◌, ◌<◌, ◌^◌, MatchOption, get_or};
 ghost use Rattle.label_parse.specs.Parse as parsing;
 
-use label::{LABEL_MOST, label_text};
+use label::Label;
 use sender::{Group, PublicKey, Unit};
 
 // A number read from a text, and the place behind it.
@@ -123,14 +123,6 @@ pub fn unit_in(s: &[u8]) -> Unit
     }
 }
 
-// Whether s is a label: that of the unit that its fields give.
-#[tactic(auto, using(crate::proofs::Parsing::is_some_parse))]
-pub fn is_label(s: &[u8]) -> bool
-    ensures { result ≡ parsing.is_label s.now }
-{
-    parse(s).is_some()
-}
-
 // The unit whose label s is.
 #[tactic(auto, using(crate::proofs::Parsing::found, crate::proofs::Parsing::exact_of))]
 pub fn parse(s: &[u8]) -> Option<Unit>
@@ -138,7 +130,5 @@ pub fn parse(s: &[u8]) -> Option<Unit>
     ensures exact { parsing.Exact s.now result }
 {
     let unit = unit_in(s);
-    let mut own = [0u8; LABEL_MOST];
-    let n = label_text(unit, &mut own);
-    (&own[..n] == s).then_some(unit)
+    (Label::of(unit).as_bytes() == s).then_some(unit)
 }

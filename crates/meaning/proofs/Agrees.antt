@@ -9,7 +9,7 @@ use Rattle.flow.specs.Flow.{numbers}
 use Rattle.sender.specs.declared.Unit.{Unit}
 use Rattle.sender.specs.Sender.{name_of}
 use Rattle.head.specs.declared.Shedder.{Shedder}
-use Rattle.head.specs.declared.Cause.{Cause}
+use Rattle.store.specs.declared.Cause.{Cause}
 use Rattle.flow.specs.declared.Dim.{Dim}
 use Rattle.std.proofs.Common.{Ok}
 use Rattle.verdict.specs.declared.Verdict.TheVariants as verdict

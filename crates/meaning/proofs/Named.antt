@@ -17,8 +17,7 @@ use Rattle.store.specs.Store.{Rows, rows, name_at, record_at}
 use Rattle.store.proofs.Names.{words_put}
 use Rattle.store.proofs.Places.{put_other, record_same}
 use Rattle.store_entry.specs.Entering as entering
-use Rattle.store_entry.specs.Entering.{Entered, entered as given, place as placed}
-use Rattle.store_entry.specs.declared.Place.{Place}
+use Rattle.store_entry.specs.Entering.{Place, Entered, entered as given, place as placed}
 use Rattle.store_entry.specs.Own.{Has, Fits}
 use Rattle.store_entry.proofs.Own.{owns, has_or_not}
 use Rattle.head.proofs.Whole.{whole_of}

@@ -8,7 +8,7 @@ use lib.ListN.{length, drop}
 use borrow.Author.Tests.{eq-eqb}
 use Rattle.std.proofs.Common.{◌≤◌, leb-true, Some, None, Ok}
 use Rattle.std.specs.Prelude.{⊤}
-use Rattle.ieee.proofs.Tests.{both_yes}
+use Rattle.std.proofs.lemmas.Bool.{and_parts}
 use Rattle.verdict.specs.declared.Verdict.{Verdict}
 use Rattle.verdict.specs.declared.Verdict.TheVariants.{Admitted}
 use Rattle.head.specs.Answers.{refused, answer_number, start_number, judge_number, cut_number, reading_number, level_number, rate_number, bounded_number, written_number}
@@ -46,8 +46,8 @@ asked : {A : Type 0} (number : A → ℕ) (denied : ℕ → A) (result : A) (qs 
 unfolding among numbers_of held
 asked number denied result [] r z k = rw z refl
 asked number denied result (q ∷ qs) r z k =
-    let a = both_yes (leb 1 q.0 && leb q.0 7) (held qs) k in
-    let b = both_yes (leb 1 q.0) (leb q.0 7) a.0 in
+    let a = and_parts (leb 1 q.0 && leb q.0 7) (held qs) k in
+    let b = and_parts (leb 1 q.0) (leb q.0 7) a.0 in
     go q.1 (r q.0 (leb-true 1 q.0 b.0) (leb-true q.0 7 b.1)) (asked number denied result qs r z a.1)
   where
     go : (b : Bool) → number (denied q.0) ≡ q.0 → among (number (ask qs denied result)) (0 ∷ numbers_of qs) ≡ true → among (number (cond b (ask qs denied result) (denied q.0))) (0 ∷ q.0 ∷ numbers_of qs) ≡ true

@@ -17,7 +17,7 @@ pub use Rattle.sender.specs.declared.Name.{Name}
 pub use Rattle.head.specs.declared.Flow.{Flow}
 pub use Rattle.head.specs.declared.Scan.{Scan}
 pub use Rattle.head.specs.declared.Shedder.{Shedder}
-pub use Rattle.head.specs.declared.Cause.{Cause}
+pub use Rattle.store.specs.declared.Cause.{Cause}
 pub use Rattle.flow.specs.declared.Dim.{Dim}
 pub use Rattle.head.specs.declared.Refusal.{Refusal}
 

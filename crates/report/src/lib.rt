@@ -3,12 +3,13 @@
 
 ghost use Rattle.std.specs.Prelude.{◌≡◌, length, take};
 ghost use Rattle.io.specs.Counts.{IsPrefixLen};
+ghost use Rattle.store.specs.Held.{of_read};
 ghost use Rattle.head.specs.Answers as answers;
 ghost use Rattle.report.specs.Report as reports;
 
 use head::{Refusal, Shedder};
 use report_lines::{TEXT_MOST, write_text};
-use store::{SourceRow, UnitRow, UseRow};
+use store::LentRead;
 use text::Page;
 
 // The bytes written.
@@ -22,22 +23,19 @@ fn bytes(answer: Result<usize, Refusal>) -> usize
 // anything is written to the caller's buffer.
 fn composed(
     head: Shedder,
-    tags: usize,
-    units: usize,
-    uses: usize,
-    counted: &[SourceRow],
+    lent: &LentRead<'_>,
     room: usize,
     own: &mut [u8; TEXT_MOST],
 ) -> Result<usize, Refusal>
-    ensures value { result ≡ reports.answer head tags units uses counted.now room }
+    ensures value { result ≡ of_read (reports.answer head) lent.now room }
     ensures prefix_len { IsPrefixLen (reports.bytes result) own.new }
-    ensures own_after { take (reports.bytes result) own.new ≡ reports.front head tags units uses counted.now room }
+    ensures own_after { take (reports.bytes result) own.new ≡ of_read (reports.front head) lent.now room }
 {
     head::read_asked(head)?;
-    if !head::memory_whole(head, tags, units, uses, counted.len()) {
+    if !head::memory_whole(head, lent.sizes()) {
         return Err(Refusal::Memory);
     }
-    let n = write_text(head, counted, own);
+    let n = write_text(head, lent.counted, own);
     if room < n {
         return Err(Refusal::Buffer);
     }
@@ -45,29 +43,14 @@ fn composed(
 }
 
 // Writes the report to the front of out. A refused one writes nothing.
-pub fn write_report(
-    head: Shedder,
-    tags: &[u16],
-    units: &[UnitRow],
-    uses: &[UseRow],
-    counted: &[SourceRow],
-    out: &mut [u8],
-) -> Result<usize, Refusal>
+pub fn write_report(head: Shedder, lent: &LentRead<'_>, out: &mut [u8]) -> Result<usize, Refusal>
     ensures out_after { reports.ends result out.new
-        ≡ reports.report head (length tags.now) (length units.now) (length uses.now) counted.now out.old }
+        ≡ of_read (reports.report head) lent.now out.old }
     ensures result_value { answers.written_number result
-        ≡ reports.report_asked head (length tags.now) (length units.now) (length uses.now) counted.now (length out.old) }
+        ≡ of_read (reports.report_asked head) lent.now (length out.old) }
 {
     let mut own = [0u8; TEXT_MOST];
-    let w = composed(
-        head,
-        tags.len(),
-        units.len(),
-        uses.len(),
-        counted,
-        out.len(),
-        &mut own,
-    );
+    let w = composed(head, lent, out.len(), &mut own);
     let n = bytes(w);
     let mut page = Page::at_front(out);
     page.put(&own[..n]);
@@ -76,41 +59,19 @@ pub fn write_report(
 
 // The report as the written front part of out; that part is empty where the report is refused. What stands behind it is
 // promised by write_report.
-pub fn report<'a>(
-    head: Shedder,
-    tags: &[u16],
-    units: &[UnitRow],
-    uses: &[UseRow],
-    counted: &[SourceRow],
-    out: &'a mut [u8],
-) -> &'a mut [u8]
-    ensures { result.now ≡ reports.front head (length tags.now) (length units.now) (length uses.now) counted.now (length out.old) }
+pub fn report<'a>(head: Shedder, lent: &LentRead<'_>, out: &'a mut [u8]) -> &'a mut [u8]
+    ensures { result.now ≡ of_read (reports.front head) lent.now (length out.old) }
 {
-    let w = write_report(head, tags, units, uses, counted, &mut out[..]);
+    let w = write_report(head, lent, &mut out[..]);
     let n = bytes(w);
     &mut out[..n]
 }
 
 // The refusal of a report into out, if it would not be written.
-pub fn report_refusal(
-    head: Shedder,
-    tags: &[u16],
-    units: &[UnitRow],
-    uses: &[UseRow],
-    counted: &[SourceRow],
-    out: &[u8],
-) -> Result<(), Refusal>
-    ensures { answers.answer_number result ≡ reports.report_asked head (length tags.now) (length units.now) (length uses.now) counted.now (length out.now) }
+pub fn report_refusal(head: Shedder, lent: &LentRead<'_>, out: &[u8]) -> Result<(), Refusal>
+    ensures { answers.answer_number result ≡ of_read (reports.report_asked head) lent.now (length out.now) }
 {
     let mut own = [0u8; TEXT_MOST];
-    composed(
-        head,
-        tags.len(),
-        units.len(),
-        uses.len(),
-        counted,
-        out.len(),
-        &mut own,
-    )?;
+    composed(head, lent, out.len(), &mut own)?;
     Ok(())
 }

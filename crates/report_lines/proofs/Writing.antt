@@ -13,6 +13,10 @@ use Rattle.text.specs.Page.{Page, page, placed, write, writes}
 use Rattle.text.specs.Number.{decimal}
 use Rattle.text.proofs.Writing.{fits, writes_joined, front}
 use Rattle.io.specs.Counts.{IsPrefixLen}
+use Rattle.std.specs.Prelude.{Some, None}
+use Rattle.store.specs.Found.{found}
+use Rattle.store.proofs.Found.{found_some, found_none}
+use Rattle.report_ranking.proofs.Choosing.{first_after_bound}
 use Rattle.sender.specs.declared.Unit.{Unit}
 use Rattle.label.specs.Label.{label}
 use Rattle.head.specs.declared.Shedder.{Shedder}
@@ -42,23 +46,27 @@ named_step : (rows : List (List ℕ)) (n k j last : ℕ) → k ≡ suc j
 unfolding named
 named_step rows n k j last e = rw e
 
-module _ (rows : List (List ℕ)) (n k j last next : ℕ) (more : k ≡ suc j) (is : next ≡ first_after rows n last n) where
-  pub sources_next : (p : Page) {q : Page} → (next ≡ n → ⊥) → q ≡ writes p (source_line rows next)
+module _ (rows : List (List ℕ)) (n k j last : ℕ) (more : k ≡ suc j) where
+  abbrev at : ℕ
+  at = first_after rows n last n
+
+  pub sources_next : (p : Page) {q : Page} (next : ℕ) → Some next ≡ found n at → q ≡ writes p (source_line rows next)
       → writes p (source_lines rows (named rows n k last)) ≡ writes q (source_lines rows (named rows n j next))
   unfolding source_lines
-  sources_next p some e =
-      let e0 : named rows n k last ≡ first_after rows n last n ∷ named rows n j (first_after rows n last n) =
-      rw (named_step rows n k j last more, ne_eqb (first_after rows n last n) n (λ z. some (is ∙ z))) in
+  sources_next p next is e =
+      let w = found_some n at next (sym is) in
+      let e0 : named rows n k last ≡ at ∷ named rows n j at = rw (named_step rows n k j last more, ne_eqb at n (λ z. omega arith)) in
       ap (λ (l : List ℕ). writes p (source_lines rows l)) e0
-      ∙ ap (λ (m : ℕ). writes p (source_line rows m ++ source_lines rows (named rows n j m))) (sym is)
+      ∙ ap (λ (m : ℕ). writes p (source_line rows m ++ source_lines rows (named rows n j m))) w.0
       ∙ writes_append p (source_line rows next) (source_lines rows (named rows n j next))
       ∙ ap (λ (r : Page). writes r (source_lines rows (named rows n j next))) (sym e)
 
-  pub sources_none : (p : Page) → next ≡ n → writes p (source_lines rows (named rows n k last)) ≡ p
+  pub sources_none : (p : Page) → None ≡ found n at → p ≡ writes p (source_lines rows (named rows n k last))
   unfolding source_lines writes
-  sources_none p none =
-      let e0 : named rows n k last ≡ [] = rw (named_step rows n k j last more, eq-eqb (first_after rows n last n) n (sym is ∙ none)) in
-      ap (λ (l : List ℕ). writes p (source_lines rows l)) e0
+  sources_none p is =
+      let end : at ≡ n = omega (arith, found_none n at (sym is), first_after_bound rows n last n (omega arith)) in
+      let e0 : named rows n k last ≡ [] = rw (named_step rows n k j last more, eq-eqb at n end) in
+      sym (ap (λ (l : List ℕ). writes p (source_lines rows l)) e0)
 
 pub sources_end : (p : Page) (rows : List (List ℕ)) (n k last : ℕ) → k ≡ 0 → writes p (source_lines rows (named rows n k last)) ≡ p
 unfolding source_lines named writes

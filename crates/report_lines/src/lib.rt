@@ -4,7 +4,7 @@
 ghost use Rattle.std.specs.Prelude.{◌≡◌, ◌<◌, ◌≤◌, length, take};
 ghost use Rattle.io.specs.Counts.{IsPrefixLen};
 ghost use Rattle.text.specs.Page.{page, placed, writes, joined};
-ghost use Rattle.store.specs.Store as store;
+ghost use Rattle.store.specs.Causes.{index_of};
 ghost use Rattle.report_ranking.specs.Sources as sources;
 ghost use Rattle.report_lines.specs.Lines as lines;
 ghost use Rattle.text.specs.Pages.{seen};
@@ -13,7 +13,7 @@ use flow::DIMS;
 use head::Shedder;
 use label::LABEL_MOST;
 use report_ranking::{SOURCES_REPORTED, first_after, unit_at};
-use store::{CAUSES, SourceRow};
+use store::{CAUSES, Cause, SourceRow};
 use text::Page;
 
 // A number behind a space has at most 21 bytes.
@@ -63,16 +63,16 @@ fn put_rates(out: &mut Page<'_>, word: &[u8], unbounded: bool, xs: &[u64])
 }
 
 #[tactic(auto, unfolding(crate::specs::Lines::cause_line))]
-fn put_cause(out: &mut Page<'_>, word: &[u8], head: Shedder, i: usize)
-    requires { i < store.«CAUSES» }
+fn put_cause(out: &mut Page<'_>, word: &[u8], head: Shedder, cause: Cause)
     ensures same_reference { out.new.out.ghost_name ≡ out.old.out.ghost_name }
-    ensures value { seen out.new ≡ writes (seen out.old) (lines.cause_line word.now i head) }
+    ensures value { seen out.new ≡ writes (seen out.old) (lines.cause_line word.now (index_of cause) head) }
 {
+    let i = usize::from(cause);
     put_line(out, word, &[head.batches[i], head.receptions[i]]);
 }
 
-// A line for each cause, as the definition has them: a loop over their words would be no plainer.
-#[tactic(auto, using(crate::proofs::Writing::head_put, crate::proofs::Lengths::head_short))]
+// A line for each cause, as the definition has them: a loop would need a table of the three words, which stand nowhere else.
+#[tactic(auto, using(crate::proofs::Writing::head_put, crate::proofs::Lengths::head_short), unfolding(store::specs::Causes::index_of))]
 fn put_head(out: &mut Page<'_>, head: Shedder)
     ensures same_reference { out.new.out.ghost_name ≡ out.old.out.ghost_name }
     ensures value { seen out.new ≡ writes (seen out.old) (lines.head_lines head) }
@@ -82,9 +82,9 @@ fn put_head(out: &mut Page<'_>, head: Shedder)
     put_rates(out, b"rate", unbounded, &head.flow.rate);
     put_rates(out, b"ceiling", unbounded, &head.flow.ceiling);
     put_line(out, b"active", &[head.tracked as u64]);
-    put_cause(out, b"receiver-ceiling", head, 0);
-    put_cause(out, b"over-share", head, 1);
-    put_cause(out, b"relay-rate", head, 2);
+    put_cause(out, b"receiver-ceiling", head, Cause::ReceiverCeiling);
+    put_cause(out, b"over-share", head, Cause::OverShare);
+    put_cause(out, b"relay-rate", head, Cause::RelayRate);
 }
 
 #[tactic(auto, using(crate::proofs::Writing::source_put))]
@@ -107,18 +107,18 @@ fn put_sources(out: &mut Page<'_>, counted: &[SourceRow], n: usize)
     ensures same_reference { out.new.out.ghost_name ≡ out.old.out.ghost_name }
     ensures value { seen out.new ≡ writes (seen out.old) (lines.source_lines counted.now (sources.reported counted.now n)) }
 {
-    let mut last = n;
+    let mut last = None;
     for _ in 0..SOURCES_REPORTED {
-        let next = first_after(counted, n, last);
-        if next == n {
+        let Some(next) = first_after(counted, n, last) else {
             return;
-        }
+        };
         put_source(out, counted, next);
-        last = next;
+        last = Some(next);
     }
 }
 
-// The whole text at the front of own; every byte behind it is as it was. The answer is its length.
+// The whole text at the front of own, an array of the caller's, since there is no heap; every byte behind it is as it was. The answer
+// is its length.
 pub fn write_text(head: Shedder, counted: &[SourceRow], own: &mut [u8; TEXT_MOST]) -> usize
     requires { head.counted ≤ length counted.now }
     ensures prefix_len { IsPrefixLen result own.new }

@@ -1,9 +1,12 @@
-// Which sources a report names, and in which order.
+// Which sources a report names, and in which order. Those counted are the first n of a longer slice; n stays beside it, since the
+// definitions speak of places of the whole slice.
 #![tactic(auto)]
 
 ghost use Rattle.std.specs.Prelude.{◌≡◌, ◌<◌, ◌≤◌, length};
+ghost use Rattle.std.specs.Option.{IfSome, unwrap_or};
 ghost use Rattle.text.specs.Order.{less};
 ghost use Rattle.label.specs.Label.{key_label};
+ghost use Rattle.store.specs.Found.{found};
 ghost use Rattle.report_ranking.specs.Sources as sources;
 
 use cut_sources::total_at;
@@ -21,10 +24,11 @@ pub fn unit_at(counted: &[SourceRow], i: usize) -> Unit
     requires { i < length counted.now }
     ensures { result ≡ sources.unit_at counted.now i }
 {
-    sender::unit_of(cut_sources::counted_words(counted, i))
+    Unit::from(cut_sources::counted_words(counted, i))
 }
 
 // Whether the label of key x stands before that of y, by their words: no label is written.
+#[tactic(auto, using(crate::proofs::Keys::keys_less))]
 fn key_less(x: PublicKey, y: PublicKey) -> bool
     ensures { result ≡ less (key_label x) (key_label y) }
 {
@@ -75,59 +79,56 @@ fn precedes(counted: &[SourceRow], i: usize, j: usize) -> bool
     }
 }
 
-// Whether source i stands after p; each stands after n, which is none.
-#[tactic(auto, unfolding(crate::specs::Sources::is_after))]
-fn is_after(counted: &[SourceRow], n: usize, p: usize, i: usize) -> bool
+// Whether source i stands after p; each stands after none.
+#[tactic(auto, using(crate::proofs::Choosing::after_none, crate::proofs::Choosing::after_some))]
+fn is_after(counted: &[SourceRow], n: usize, p: Option<usize>, i: usize) -> bool
     requires n_in_bounds { n ≤ length counted.now }
-    requires p_le_n { p ≤ n }
+    requires p_lt_n { IfSome p (λ q. q < n) }
     requires i_lt_n { i < n }
-    ensures { result ≡ sources.is_after counted.now n p i }
+    ensures { result ≡ sources.is_after counted.now n (unwrap_or p n) i }
 {
-    p == n || precedes(counted, p, i)
-}
-
-#[tactic(auto, unfolding(crate::specs::Sources::earlier))]
-fn earlier(counted: &[SourceRow], n: usize, best: usize, i: usize) -> usize
-    requires n_in_bounds { n ≤ length counted.now }
-    requires best_le_n { best ≤ n }
-    requires i_lt_n { i < n }
-    ensures value { result ≡ sources.earlier counted.now n best i }
-    ensures upper_bound { result ≤ n }
-{
-    if best == n || precedes(counted, i, best) {
-        i
-    } else {
-        best
+    match p {
+        None => true,
+        Some(q) => precedes(counted, q, i),
     }
 }
 
 // The earlier of source i, where it stands after p, and the best so far. Few precede the best, and only those are
 // compared with p.
-#[tactic(auto, unfolding(crate::specs::Sources::better))]
-fn better(counted: &[SourceRow], n: usize, p: usize, best: usize, i: usize) -> usize
+#[tactic(auto, using(crate::proofs::Choosing::better_none, crate::proofs::Choosing::better_new, crate::proofs::Choosing::better_old, crate::proofs::Choosing::better_skip))]
+fn better(
+    counted: &[SourceRow],
+    n: usize,
+    p: Option<usize>,
+    best: Option<usize>,
+    i: usize,
+) -> Option<usize>
     requires n_in_bounds { n ≤ length counted.now }
-    requires p_le_n { p ≤ n }
-    requires best_le_n { best ≤ n }
+    requires p_lt_n { IfSome p (λ q. q < n) }
+    requires best_lt_n { IfSome best (λ b. b < n) }
     requires i_lt_n { i < n }
-    ensures value { result ≡ sources.better counted.now n p best i }
-    ensures upper_bound { result ≤ n }
+    ensures value { unwrap_or result n ≡ sources.better counted.now n (unwrap_or p n) (unwrap_or best n) i }
+    ensures upper_bound { IfSome result (λ b. b < n) }
 {
-    let e = earlier(counted, n, best, i);
-    if e != best && is_after(counted, n, p, i) {
-        e
+    let is_earlier = match best {
+        None => true,
+        Some(b) => precedes(counted, i, b),
+    };
+    if is_earlier && is_after(counted, n, p, i) {
+        Some(i)
     } else {
         best
     }
 }
 
-// Of n sources the first of those that stand after p, n where there is none.
-pub fn first_after(counted: &[SourceRow], n: usize, p: usize) -> usize
+// Of n sources the first of those that stand after p.
+pub fn first_after(counted: &[SourceRow], n: usize, p: Option<usize>) -> Option<usize>
     requires n_in_bounds { n ≤ length counted.now }
-    requires p_le_n { p ≤ n }
-    ensures value { result ≡ sources.first_after counted.now n p n }
-    ensures upper_bound { result ≤ n }
+    requires p_lt_n { IfSome p (λ q. q < n) }
+    ensures value { result ≡ found n (sources.first_after counted.now n (unwrap_or p n) n) }
+    ensures upper_bound { IfSome result (λ i. i < n) }
 {
-    let mut best = n;
+    let mut best = None;
     for i in 0..n {
         best = better(counted, n, p, best, i);
     }

@@ -8,6 +8,7 @@ ghost use Rattle.head.specs.Questions as asked;
 ghost use Rattle.store.specs.Held.{held, SameSlices};
 ghost use Rattle.store.specs.Store as store;
 ghost use Rattle.store_retain.specs.Retain as retain;
+ghost use Rattle.wants.specs.Held.{wants_held, SameArrays};
 ghost use Rattle.wants.specs.Wants as wants;
 ghost use Rattle.scan.specs.Walking as walking;
 ghost use Rattle.scan.specs.Scanning as scanning;
@@ -16,42 +17,44 @@ use flow::{DIMS, Use};
 use head::Shedder;
 use sender::TABLES;
 use store::Records;
-use wants::{Counts, Sums};
+use wants::Histogram;
 
 // How often the level is found again: a scan begins every quarter of this.
 pub const ACTIVE_MS: u64 = 2000;
 
 const SCAN_MS: u64 = ACTIVE_MS / 4;
 
-fn add_all(counts: &mut Counts, sums: &mut Sums, want: [f64; DIMS])
-    ensures { (wants.hist counts.new sums.new) ≡ walking.adds want dims (wants.hist counts.old sums.old) }
+fn add_all(histogram: &mut Histogram<'_>, want: [f64; DIMS])
+    ensures sums_after { wants_held histogram.new ≡ walking.adds want dims (wants_held histogram.old) }
+    ensures arrays { SameArrays histogram.old histogram.new }
 {
     for d in 0..DIMS {
-        wants::add(counts, sums, d, want[d]);
+        histogram.add(d, want[d]);
     }
 }
 
-fn walk_use(counts: &mut Counts, sums: &mut Sums, used: Use, at_ms: u64)
-    ensures { (wants.hist counts.new sums.new) ≡ walking.walk_use used at_ms (wants.hist counts.old sums.old) }
+fn walk_use(histogram: &mut Histogram<'_>, used: Use, at_ms: u64)
+    ensures sums_after { wants_held histogram.new ≡ walking.walk_use used at_ms (wants_held histogram.old) }
+    ensures arrays { SameArrays histogram.old histogram.new }
 {
-    add_all(counts, sums, used.rates(at_ms));
+    add_all(histogram, used.rates(at_ms));
 }
 
 // Overflow's record is walked at table 0, once it has been judged.
 #[tactic(auto, unfolding(crate::specs::Walking::walk_overflow))]
-fn walk_overflow(counts: &mut Counts, sums: &mut Sums, overflow: Use, table: usize, at_ms: u64)
-    ensures { (wants.hist counts.new sums.new) ≡ walking.walk_overflow overflow table at_ms (wants.hist counts.old sums.old) }
+fn walk_overflow(histogram: &mut Histogram<'_>, overflow: Use, table: usize, at_ms: u64)
+    ensures sums_after { wants_held histogram.new ≡ walking.walk_overflow overflow table at_ms (wants_held histogram.old) }
+    ensures arrays { SameArrays histogram.old histogram.new }
 {
     if table == 0 && !flow::is_fresh(overflow.fresh) {
-        walk_use(counts, sums, overflow, at_ms);
+        walk_use(histogram, overflow, at_ms);
     }
 }
 
 // The record at i, which stands in the table. Its rates are made here: a call of `walk_use` would be handed the whole use in memory.
 fn walk_one(
     records: &Records<'_>,
-    counts: &mut Counts,
-    sums: &mut Sums,
+    histogram: &mut Histogram<'_>,
     i: usize,
     table: usize,
     at_ms: u64,
@@ -59,19 +62,19 @@ fn walk_one(
     requires i_in_bounds { i < length records.now.units.now }
     requires i_in_bounds_2 { i < length records.now.uses.now }
     requires i_value { store.in_table records.now.tags.now table i ≡ true }
-    ensures { (wants.hist counts.new sums.new)
-        ≡ walking.walk_one (held records.now) table at_ms i (wants.hist counts.old sums.old) }
+    ensures sums_after { wants_held histogram.new
+        ≡ walking.walk_one (held records.now) table at_ms i (wants_held histogram.old) }
+    ensures arrays { SameArrays histogram.old histogram.new }
 {
     let used = records.use_at(i);
-    add_all(counts, sums, used.rates(at_ms));
+    add_all(histogram, used.rates(at_ms));
 }
 
-// The table's records from `from` on are walked up to the first at which the walk stops: where it stands, else n. Those before
-// `from` were walked.
+// The table's records from `from` on are walked up to the first at which the walk stops: where it stands, else n, a place to go on
+// from and so no Option. Those before `from` were walked. The table and its stamp stay two parameters: each clause would name both as fields of a struct.
 fn walk<F: Fn(usize) -> bool>(
     records: &Records<'_>,
-    counts: &mut Counts,
-    sums: &mut Sums,
+    histogram: &mut Histogram<'_>,
     from: usize,
     n: usize,
     table: usize,
@@ -87,26 +90,24 @@ fn walk<F: Fn(usize) -> bool>(
     ensures passed { (k : ℕ) → from ≤ k → k < result → store.in_table records.now.tags.now table k ≡ true → F.post stops k false }
     ensures stopped { result < n → F.post stops result true }
     ensures sums_after { (g : wants.Hist)
-        → wants.hist counts.old sums.old
-        ≡ walking.walk (held records.now) table at_ms from g
-        → wants.hist counts.new sums.new
-        ≡ walking.walk (held records.now) table at_ms result g }
+        → wants_held histogram.old ≡ walking.walk (held records.now) table at_ms from g
+        → wants_held histogram.new ≡ walking.walk (held records.now) table at_ms result g }
+    ensures arrays { SameArrays histogram.old histogram.new }
 {
     let mut i = store_search::next_in(records.tags, from, n, table);
     // A `while`: the next place is the search's, and the tags are read once.
     while i < n && !stops(i) {
-        walk_one(records, counts, sums, i, table, at_ms);
+        walk_one(records, histogram, i, table, at_ms);
         i = store_search::next_in(records.tags, i + 1, n, table);
     }
     i
 }
 
-// The table's records are walked up to the first that is stale: where it stands, else n. A visit that drops none reads the
-// tags once.
+// The table's records are walked up to the first that is stale: where it stands, else n, from where the drop goes on. A visit that
+// drops none reads the tags once.
 fn walk_to_stale(
     records: &Records<'_>,
-    counts: &mut Counts,
-    sums: &mut Sums,
+    histogram: &mut Histogram<'_>,
     n: usize,
     table: usize,
     at_ms: u64,
@@ -116,18 +117,18 @@ fn walk_to_stale(
     requires n_in_bounds_3 { n ≤ length records.now.uses.now }
     ensures upper_bound { result ≤ n }
     ensures none { store.None (retain.is_stale records.now.tags.now records.now.units.now table at_ms) 0 result }
-    ensures sums_after { (wants.hist counts.new sums.new)
-        ≡ walking.walk (held records.now) table at_ms result (wants.hist counts.old sums.old) }
+    ensures sums_after { wants_held histogram.new
+        ≡ walking.walk (held records.now) table at_ms result (wants_held histogram.old) }
+    ensures arrays { SameArrays histogram.old histogram.new }
 {
     let is_stale = |i| store_retain::is_stale(records, i, table, at_ms);
-    walk(records, counts, sums, 0, n, table, at_ms, is_stale)
+    walk(records, histogram, 0, n, table, at_ms, is_stale)
 }
 
 // The table's records from `from` on are walked, where those before it were.
 fn walk_rest(
     records: &Records<'_>,
-    counts: &mut Counts,
-    sums: &mut Sums,
+    histogram: &mut Histogram<'_>,
     from: usize,
     n: usize,
     table: usize,
@@ -137,13 +138,12 @@ fn walk_rest(
     requires n_in_bounds { n ≤ length records.now.tags.now }
     requires n_in_bounds_2 { n ≤ length records.now.units.now }
     requires n_in_bounds_3 { n ≤ length records.now.uses.now }
-    ensures { (g : wants.Hist)
-        → wants.hist counts.old sums.old
-        ≡ walking.walk (held records.now) table at_ms from g
-        → wants.hist counts.new sums.new
-        ≡ walking.walk (held records.now) table at_ms n g }
+    ensures sums_after { (g : wants.Hist)
+        → wants_held histogram.old ≡ walking.walk (held records.now) table at_ms from g
+        → wants_held histogram.new ≡ walking.walk (held records.now) table at_ms n g }
+    ensures arrays { SameArrays histogram.old histogram.new }
 {
-    walk(records, counts, sums, from, n, table, at_ms, |_| false);
+    walk(records, histogram, from, n, table, at_ms, |_| false);
 }
 
 // One table more is visited, and so many records are left.
@@ -163,8 +163,7 @@ fn visited(h: &mut Shedder, n: usize)
 // are left.
 fn swept(
     records: &mut Records<'_>,
-    counts: &mut Counts,
-    sums: &mut Sums,
+    histogram: &mut Histogram<'_>,
     overflow: Use,
     tracked: usize,
     table: usize,
@@ -175,36 +174,37 @@ fn swept(
     requires tracked_in_bounds_3 { tracked ≤ length records.old.uses.now }
     ensures uses_after { retain.kept result (held records.new)
         ≡ retain.retained (held records.old) table at_ms tracked }
-    ensures sums_after { (wants.hist counts.new sums.new)
+    ensures sums_after { wants_held histogram.new
         ≡ walking.walk (held records.new) table at_ms result
-        (walking.walk_overflow overflow table at_ms (wants.hist counts.old sums.old)) }
+        (walking.walk_overflow overflow table at_ms (wants_held histogram.old)) }
     ensures upper_bound { result ≤ tracked }
     ensures slices { SameSlices records.old records.new }
+    ensures arrays { SameArrays histogram.old histogram.new }
 {
-    walk_overflow(counts, sums, overflow, table, at_ms);
-    let i = walk_to_stale(records, counts, sums, tracked, table, at_ms);
+    walk_overflow(histogram, overflow, table, at_ms);
+    let i = walk_to_stale(records, histogram, tracked, table, at_ms);
     let n = store_retain::retain(records, i, tracked, table, at_ms);
-    walk_rest(records, counts, sums, i, n, table, at_ms);
+    walk_rest(records, histogram, i, n, table, at_ms);
     n
 }
 
 // The next table is visited.
-fn visit(h: &mut Shedder, records: &mut Records<'_>, counts: &mut Counts, sums: &mut Sums)
+fn visit(h: &mut Shedder, records: &mut Records<'_>, histogram: &mut Histogram<'_>)
     requires tracked_in_bounds { h.old.tracked ≤ length records.old.tags.now }
     requires tracked_in_bounds_2 { h.old.tracked ≤ length records.old.units.now }
     requires tracked_in_bounds_3 { h.old.tracked ≤ length records.old.uses.now }
     requires le_remaining { 1 ≤ h.old.scan.remaining }
     requires next_bound { h.old.scan.remaining + h.old.scan.next ≤ sender.«TABLES» }
-    ensures sums_after { scanning.scanning h.new (held records.new) (wants.hist counts.new sums.new)
-        ≡ scanning.visit (scanning.scanning h.old (held records.old) (wants.hist counts.old sums.old)) }
+    ensures sums_after { scanning.scanning h.new (held records.new) (wants_held histogram.new)
+        ≡ scanning.visit (scanning.scanning h.old (held records.old) (wants_held histogram.old)) }
     ensures tracked_le_tracked { h.new.tracked ≤ h.old.tracked }
     ensures next_bound_2 { h.new.scan.remaining + h.new.scan.next ≤ sender.«TABLES» }
     ensures slices { SameSlices records.old records.new }
+    ensures arrays { SameArrays histogram.old histogram.new }
 {
     let n = swept(
         records,
-        counts,
-        sums,
+        histogram,
         h.overflow,
         h.tracked,
         h.scan.next,
@@ -214,25 +214,26 @@ fn visit(h: &mut Shedder, records: &mut Records<'_>, counts: &mut Counts, sums: 
 }
 
 // A second visit, where a table remains.
-fn again(h: &mut Shedder, records: &mut Records<'_>, counts: &mut Counts, sums: &mut Sums)
+fn again(h: &mut Shedder, records: &mut Records<'_>, histogram: &mut Histogram<'_>)
     requires tracked_in_bounds { h.old.tracked ≤ length records.old.tags.now }
     requires tracked_in_bounds_2 { h.old.tracked ≤ length records.old.units.now }
     requires tracked_in_bounds_3 { h.old.tracked ≤ length records.old.uses.now }
     requires next_bound { h.old.scan.remaining + h.old.scan.next ≤ sender.«TABLES» }
-    ensures sums_after { scanning.scanning h.new (held records.new) (wants.hist counts.new sums.new)
-        ≡ scanning.again (scanning.scanning h.old (held records.old) (wants.hist counts.old sums.old)) }
+    ensures sums_after { scanning.scanning h.new (held records.new) (wants_held histogram.new)
+        ≡ scanning.again (scanning.scanning h.old (held records.old) (wants_held histogram.old)) }
     ensures slices { SameSlices records.old records.new }
+    ensures arrays { SameArrays histogram.old histogram.new }
 {
     if h.scan.remaining >= 1 {
-        visit(h, records, counts, sums);
+        visit(h, records, histogram);
     }
 }
 
-fn ended(h: Shedder, counts: &Counts, sums: &Sums) -> Shedder
-    ensures { result ≡ scanning.ended h (wants.hist counts.now sums.now) }
+fn ended(h: Shedder, histogram: &Histogram<'_>) -> Shedder
+    ensures { result ≡ scanning.ended h (wants_held histogram.now) }
 {
     if h.scan.remaining == 0 {
-        scan_trim::trimmed(h, counts, sums)
+        scan_trim::trimmed(h, histogram)
     } else {
         h
     }
@@ -250,13 +251,14 @@ fn open(h: &mut Shedder, clock: u64)
 }
 
 // Whether a scan is under way, once one that is due has begun.
-fn is_running(h: &mut Shedder, counts: &mut Counts, sums: &mut Sums, clock: u64) -> bool
+fn is_running(h: &mut Shedder, histogram: &mut Histogram<'_>, clock: u64) -> bool
     requires began_ms_bound { h.old.scan.began_ms < asked.STAMP_END }
     requires next_bound { h.old.scan.remaining + h.old.scan.next ≤ sender.«TABLES» }
     ensures value { result ≡ nat_le 1 h.new.scan.remaining }
-    ensures sums_after { scanning.started h.new (wants.hist counts.new sums.new) ≡ scanning.begun h.old (wants.hist counts.old sums.old) clock }
+    ensures sums_after { scanning.started h.new (wants_held histogram.new) ≡ scanning.begun h.old (wants_held histogram.old) clock }
     ensures tracked_value { h.new.tracked ≡ h.old.tracked }
     ensures next_bound_2 { h.new.scan.remaining + h.new.scan.next ≤ sender.«TABLES» }
+    ensures arrays { SameArrays histogram.old histogram.new }
 {
     if h.scan.remaining > 0 {
         return true;
@@ -264,7 +266,7 @@ fn is_running(h: &mut Shedder, counts: &mut Counts, sums: &mut Sums, clock: u64)
     if clock < h.scan.began_ms + SCAN_MS {
         return false;
     }
-    wants::clear(counts, sums);
+    histogram.clear();
     open(h, clock);
     true
 }
@@ -273,8 +275,7 @@ fn is_running(h: &mut Shedder, counts: &mut Counts, sums: &mut Sums, clock: u64)
 pub fn scanned(
     mut h: Shedder,
     records: &mut Records<'_>,
-    counts: &mut Counts,
-    sums: &mut Sums,
+    histogram: &mut Histogram<'_>,
     clock: u64,
 ) -> Shedder
     requires tracked_in_bounds { h.tracked ≤ length records.old.tags.now }
@@ -282,14 +283,15 @@ pub fn scanned(
     requires tracked_in_bounds_3 { h.tracked ≤ length records.old.uses.now }
     requires began_ms_bound { h.scan.began_ms < asked.STAMP_END }
     requires next_bound { h.scan.remaining + h.scan.next ≤ sender.«TABLES» }
-    ensures sums_after { scanning.scanning result (held records.new) (wants.hist counts.new sums.new)
-        ≡ scanning.scanned (scanning.scanning h (held records.old) (wants.hist counts.old sums.old)) clock }
+    ensures sums_after { scanning.scanning result (held records.new) (wants_held histogram.new)
+        ≡ scanning.scanned (scanning.scanning h (held records.old) (wants_held histogram.old)) clock }
     ensures slices { SameSlices records.old records.new }
+    ensures arrays { SameArrays histogram.old histogram.new }
 {
-    if !is_running(&mut h, counts, sums, clock) {
+    if !is_running(&mut h, histogram, clock) {
         return h;
     }
-    visit(&mut h, records, counts, sums);
-    again(&mut h, records, counts, sums);
-    ended(h, counts, sums)
+    visit(&mut h, records, histogram);
+    again(&mut h, records, histogram);
+    ended(h, histogram)
 }

@@ -11,7 +11,7 @@ use lib.Ieee as Ieee
 use lib.Ieee.{Float, nan, inf, fin, binary64, low, emax, up, down, below, level, odd, round, of_bits, lt, le, unlike}
 use lib.Ieee.Fits.{round_is}
 use lib.Ieee.Positive.{positive, above, above_of_le, between, le_trans_positive}
-use Rattle.ieee.proofs.Order.{passed}
+use Rattle.std.proofs.lemmas.Float.{T_from_true}
 use borrow.Author.Tests.{lt-ltb, ltb-true, ltb-false, eq-eqb, ne_eqb}
 use Rattle.ieee.specs.Doubles.{nothing, half, one}
 use Rattle.ieee.specs.Extremes.{clamped, most}
@@ -129,7 +129,7 @@ holds {b = false} t = absurd t
 
 -- from a finite value above zero upward: a ≤ b ≤ x
 le_up : (a b x : Float) → T (positive a) → T (positive b) → le a b ≡ true → le b x ≡ true → le a x ≡ true
-le_up a b x p q h k = go x (above_of_le b x q (passed k)) (passed k)
+le_up a b x p q h k = go x (above_of_le b x q (T_from_true _ k)) (T_from_true _ k)
   where
     to_infinity : (a : Float) → T (positive a) → le a (inf false) ≡ true
     to_infinity nan p = elim p [ ]
@@ -142,7 +142,7 @@ le_up a b x p q h k = go x (above_of_le b x q (passed k)) (passed k)
     go (inf true) r k = elim r [ ]
     go (fin true m e) r k = elim r [ ]
     go (inf false) r k = to_infinity a p
-    go (fin false m e) r k = holds (le_trans_positive a b (fin false m e) p q r (passed h) k)
+    go (fin false m e) r k = holds (le_trans_positive a b (fin false m e) p q r (T_from_true _ h) k)
 
 half_positive : T (positive half)
 unfolding of_bits
@@ -154,7 +154,7 @@ one_positive = tt
 
 -- ---- a trim is finite and above zero
 pub trim_positive : (x : Float) → Trim x → T (positive x)
-trim_positive x t = between half x one half_positive one_positive (passed t.least) (passed t.most)
+trim_positive x t = between half x one half_positive one_positive (T_from_true _ t.least) (T_from_true _ t.most)
 
 -- x is finite and not zero
 pub data Finite : Float → Type 0 where
@@ -190,8 +190,8 @@ clamp_trim x low high n l h = lowered (cond (lt x low) low x) (raised (lt x low)
         by true e = h
         by false e =
             let p = not-lt high r (number high h) m e in
-            let q = between half r high half_positive (trim_positive high h) (passed k) (passed p) in
-            record { least = k; most = holds (le_trans_positive r high one q (trim_positive high h) one_positive (passed p) (passed h.most)) }
+            let q = between half r high half_positive (trim_positive high h) (T_from_true _ k) (T_from_true _ p) in
+            record { least = k; most = holds (le_trans_positive r high one q (trim_positive high h) one_positive (T_from_true _ p) (T_from_true _ h.most)) }
 
 -- clamped to numbers it is a number
 pub clamp_number : (x low high : Float) → Number x → Number low → Number high → Number (clamped x low high)

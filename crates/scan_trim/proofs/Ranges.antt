@@ -18,7 +18,8 @@ use Rattle.ieee.specs.Units.{power, units, Amount}
 use Rattle.ieee.specs.Extremes.{most, clamped}
 use Rattle.ieee.proofs.Power.{power-is, power_pos, power_add, power_mono, power_times}
 use Rattle.ieee.proofs.Value.{amount_value, amount_digits, zero_is, one_is}
-use Rattle.ieee.proofs.Order.{lt_units, passed}
+use Rattle.std.proofs.lemmas.Float.{T_from_true}
+use Rattle.ieee.proofs.Order.{lt_units}
 use Rattle.ieee.proofs.Operations.{div_rounds, int_rounds}
 use Rattle.ieee.proofs.Extremes.{clamped_nan}
 use Rattle.ieee.proofs.Laws.{rounds_is}
@@ -88,7 +89,7 @@ above (fin false m e) f h = inr (record { fit = f; sign = tt })
 span_finite : (gain span : Float) → T (fits binary64 span) → lt nothing span ≡ true → lt nothing (Ieee.div binary64 gain span) ≡ true → Finite (Ieee.div binary64 span one)
 span_finite gain span f h k = elim (above span f h) [
   | inl e ↦ absurd (true≢false (sym k ∙ ap (λ (x : Float). lt nothing (Ieee.div binary64 gain x)) e ∙ none_gained gain false))
-  | inr a ↦ over-one span a (let l = lt_units nothing span zero_is.amount a (passed h) in omega (arith, zero_is.worth))
+  | inr a ↦ over-one span a (let l = lt_units nothing span zero_is.amount a (T_from_true _ h) in omega (arith, zero_is.worth))
 ]
 
 times : (x y : Float) → Finite x → Number y → Number (Ieee.mul binary64 x y)

@@ -2,12 +2,12 @@
 #![tactic(auto)]
 
 ghost use Rattle.std.specs.Prelude.{◌≡◌};
-ghost use Rattle.wants.specs.Wants as wants;
+ghost use Rattle.wants.specs.Held.{wants_held};
 ghost use Rattle.scan_trim.specs.Trimming as trimming;
 
 use flow::DIMS;
 use head::{Scan, Shedder};
-use wants::{Counts, Sums};
+use wants::Histogram;
 
 // The most that the trim moves the level in one scan, and the least that it leaves of it.
 pub const TRIM_STEP: f64 = 0.05;
@@ -44,10 +44,10 @@ fn trim_of(open: f64, trim: f64, rate: f64, gain: f64, span: f64) -> f64
 }
 
 #[tactic(auto, unfolding(crate::specs::Trimming::opens))]
-fn opens(counts: &Counts, sums: &Sums, rate: [f64; DIMS]) -> [f64; DIMS]
-    ensures { result ≡ trimming.opens (wants.hist counts.now sums.now) rate }
+fn opens(histogram: &Histogram<'_>, rate: [f64; DIMS]) -> [f64; DIMS]
+    ensures { result ≡ trimming.opens (wants_held histogram.now) rate }
 {
-    flow::per_dim(|d| wants::level(counts, sums, d, rate[d]))
+    flow::per_dim(|d| histogram.level(d, rate[d]))
 }
 
 #[tactic(auto, unfolding(crate::specs::Trimming::trims))]
@@ -78,13 +78,14 @@ fn span_of(clock: u64, read_ms: u64) -> f64
     flow::seconds(flow::since(clock, read_ms))
 }
 
-// The scan is over: the level found, its trim, and the level stored.
+// The scan is over: the level found, its trim, and the level stored. Its locals stay: of an array stored straight from a field
+// the check makes no proof.
 #[tactic(auto, unfolding(crate::specs::Trimming::trimmed))]
-pub fn trimmed(h: Shedder, counts: &Counts, sums: &Sums) -> Shedder
-    ensures { result ≡ trimming.trimmed h (wants.hist counts.now sums.now) }
+pub fn trimmed(h: Shedder, histogram: &Histogram<'_>) -> Shedder
+    ensures { result ≡ trimming.trimmed h (wants_held histogram.now) }
 {
     let rate = flow::numbers(h.flow.rate);
-    let open = opens(counts, sums, rate);
+    let open = opens(histogram, rate);
     let admitted = h.flow.admitted;
     let trim = trims(
         open,

@@ -1,13 +1,10 @@
--- The table of a hash is its six highest bits, and below 64; it is the table of the hash's tag.
+-- The table of a hash is its six highest bits; it is the table of the hash's tag.
 use mathlib.Core.Path.{◌≡◌, ap, ◌∙◌}
 use Prim.Native.Nat.{ℕ, ◌+◌, ◌*◌, ◌/◌, ◌%◌, ◌^◌, ◌<◌}
 use native.Mathlib.Omega.{arith}
 use native.Mathlib.Nat.{mul_comm, div-div-eq-div-mul, mul-div-mul_right}
 use lib.Dec.{lit<}
-use lib.Pow.{shr_lt}
-use Rattle.sender.specs.Sender.{table_of_hash, table_of, tag_of_hash, table_of_tag}
-use Rattle.sender.specs.declared.Unit as unit
-use Rattle.sender.proofs.Feeding.{hash_below}
+use Rattle.sender.specs.Sender.{table_of_hash, tag_of_hash, table_of_tag}
 
 pub table_is : (hash : ℕ) → table_of_hash hash ≡ hash / 2 ^ 58
 unfolding table_of_hash
@@ -15,9 +12,6 @@ table_is hash =
     ap (λ (n : ℕ). n / 2 ^ 53) (mul_comm 64 (hash / 2 ^ 11))
     ∙ mul-div-mul_right (hash / 2 ^ 11) (2 ^ 47) (lit< tt)
     ∙ div-div-eq-div-mul hash (2 ^ 11) (2 ^ 47)
-
-pub table_below : (u : unit.Unit) → table_of u < 64
-table_below u = rw table_is (shr_lt 6 58 (hash_below u))
 
 tenfold : (t r : ℕ) → r < 1024 → (1024 * t + r) / 1024 ≡ t
 tenfold t r h = omega arith

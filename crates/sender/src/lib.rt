@@ -6,12 +6,14 @@ ghost use Rattle.sender.specs.Sender as sender;
 
 pub mod hash;
 pub mod memory;
+mod named;
 
 // Tables that the tracked units are split into.
 pub const TABLES: usize = 64;
 
 pub use hash::{hash_of, rank, rank_of_hash, table_of, table_of_tag, tag_of_hash};
-pub use memory::{is_overflow, name_by_hash, name_of, same_unit, unit_of, words_of};
+pub use memory::{is_overflow, name_by_hash, name_of};
+pub use named::Named;
 
 // 32 bytes, the most significant byte of `a` first and the least significant of `d` last.
 #[derive(Clone, Copy, PartialEq, Eq, Debug)]
@@ -65,13 +67,5 @@ impl From<Group> for u64 {
             Group::V4(prefix) => (1 << 32) + u64::from(prefix),
             Group::V6(prefix) => (1 << 33) + u64::from(prefix),
         }
-    }
-}
-
-impl Group {
-    pub fn as_u64(self) -> u64
-        ensures { result ≡ sender.as_u64 self }
-    {
-        u64::from(self)
     }
 }

@@ -1,7 +1,6 @@
-// A unit as words of memory, the name that a record keeps, and whether two units are the same.
+// A unit as words of memory, and the name that a record keeps.
 ghost use Rattle.std.specs.Prelude.{◌≡◌};
 ghost use Rattle.sender.specs.Sender as sender;
-ghost use Rattle.sender.specs.Sender.{Tells};
 
 use super::hash::{hash_of, tag_of_hash};
 use super::{Group, Name, PublicKey, Unit, Words};
@@ -56,18 +55,6 @@ impl From<Words> for Unit {
     }
 }
 
-pub fn words_of(unit: Unit) -> Words
-    ensures { result ≡ sender.words_of unit }
-{
-    Words::from(unit)
-}
-
-pub fn unit_of(w: Words) -> Unit
-    ensures { result ≡ sender.unit_of w }
-{
-    Unit::from(w)
-}
-
 // The name of a unit whose hash is known.
 #[tactic(auto, unfolding(crate::specs::Sender::name_by_hash))]
 pub fn name_by_hash(unit: Unit, hash: u64) -> Name
@@ -85,15 +72,10 @@ pub fn name_of(unit: Unit) -> Name
     name_by_hash(unit, hash_of(unit))
 }
 
+// The word of a definition, in one place.
 #[tactic(auto, unfolding(crate::specs::Sender::is_overflow))]
 pub fn is_overflow(unit: Unit) -> bool
     ensures { result ≡ sender.is_overflow unit }
 {
     matches!(unit, Unit::Overflow)
-}
-
-pub fn same_unit(x: Unit, y: Unit) -> bool
-    ensures { Tells result (x ≡ y) }
-{
-    x == y
 }

@@ -1,10 +1,12 @@
 // Standard input cut into lines, and the answers written to standard output.
 use std::fmt;
 use std::io::Read;
+use store::Lent;
 use text::Page;
-use trial::Trial;
+use trial::{COUNTED, TAGS, Trial, UNITS};
 use trial_memory::Memory;
 use trial_script::{FEED, LINE, front};
+use wants::Histogram;
 
 // The bytes read at once, and those kept before they are written.
 const BLOCK: usize = 65536;
@@ -28,23 +30,43 @@ impl fmt::Display for Stop {
     }
 }
 
-// The trial and its memory; the line that is being read, and how many bytes of it are kept; the answers not yet written.
+// The trial after the line that is kept, over all of its memory.
+fn answered(
+    t: Trial,
+    memory: &mut Memory<TAGS, UNITS, COUNTED>,
+    line: &Page<'_>,
+    page: &mut Page<'_>,
+) -> Trial {
+    let mut lent = Lent {
+        tags: &mut memory.tags,
+        units: &mut memory.units,
+        uses: &mut memory.uses,
+        counted: &mut memory.counted,
+    };
+    let mut histogram = Histogram {
+        counts: &mut memory.counts,
+        sums: &mut memory.sums,
+    };
+    let whole = front(line.out, line.at);
+    trial::answer(t, &mut lent, &mut histogram, whole, page)
+}
+
+// The trial and its memory; the line that is being read, of which a byte more is kept than a line may have, and no further one;
+// the answers not yet written.
 #[derive(Drop)]
 struct Session<'a> {
     trial: Trial,
-    memory: Memory,
-    line: [u8; LINE],
-    len: usize,
+    memory: Memory<TAGS, UNITS, COUNTED>,
+    line: Page<'a>,
     page: Page<'a>,
 }
 
 impl<'a> Session<'a> {
-    fn new(page: &'a mut [u8]) -> Session<'a> {
+    fn new(line: &'a mut [u8], page: &'a mut [u8]) -> Session<'a> {
         Session {
             trial: trial::unstarted(),
             memory: Memory::zeroed(),
-            line: [0; LINE],
-            len: 0,
+            line: Page::at_front(line),
             page: Page::at_front(page),
         }
     }
@@ -62,20 +84,8 @@ impl<'a> Session<'a> {
     // Answers the line that is kept.
     fn answer(&mut self, rt: &impl Print) -> Result<(), Stop> {
         let t = self.trial;
-        let whole = front(&self.line, self.len);
-        let m = &mut self.memory;
-        self.trial = trial::answer(
-            t,
-            &mut m.tags,
-            &mut m.units,
-            &mut m.uses,
-            &mut m.counts,
-            &mut m.sums,
-            &mut m.counted,
-            whole,
-            &mut self.page,
-        );
-        self.len = 0;
+        self.trial = answered(t, &mut self.memory, &self.line, &mut self.page);
+        self.line.at = 0;
         if self.page.at < FULL {
             return Ok(());
         }
@@ -89,7 +99,7 @@ impl<'a> Session<'a> {
             if byte == FEED {
                 self.answer(rt)?;
             } else {
-                self.len = trial_script::keep(&mut self.line, self.len, byte);
+                self.line.put(&[byte]);
             }
         }
         self.write(rt)
@@ -97,7 +107,7 @@ impl<'a> Session<'a> {
 
     // Answers a last line that has no line end.
     fn finish(&mut self, rt: &impl Print) -> Result<(), Stop> {
-        if self.len == 0 {
+        if self.line.at == 0 {
             return Ok(());
         }
         self.answer(rt)?;
@@ -107,8 +117,9 @@ impl<'a> Session<'a> {
 
 // Nothing says that an input ends, so the reads are counted up to a number that no run reaches.
 fn serve_all(rt: &impl Print, reader: &mut impl Read) -> Result<(), Stop> {
+    let mut line = [0; LINE];
     let mut page = [0; BLOCK];
-    let mut session = Session::new(&mut page);
+    let mut session = Session::new(&mut line, &mut page);
     let mut input = [0; BLOCK];
     for _ in 0..u64::MAX {
         let Ok(n) = reader.read(&mut input) else {

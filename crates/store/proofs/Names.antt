@@ -8,7 +8,7 @@ use lib.Dec.{eqb}
 use lib.ListN.{length, get_or, set}
 use lib.Seq.{get_or-set_same, get_or-set_other}
 use borrow.Author.Tests.{eqb-true, eq-eqb}
-use Rattle.ieee.proofs.Tests.{both_yes}
+use Rattle.std.proofs.lemmas.Bool.{and_parts}
 use Rattle.flow.specs.declared.Use.{Use}
 use Rattle.sender.specs.declared.Name.{Name}
 use Rattle.sender.specs.declared.Words.{Words}
@@ -23,10 +23,10 @@ name_ext a a' w w' p q = cc
 pub words_same : (v w : Words) → same v w ≡ true → v ≡ w
 unfolding same
 words_same v w e =
-    let d = both_yes _ (eqb v.d w.d) e in
-    let c = both_yes _ (eqb v.c w.c) d.0 in
-    let b = both_yes _ (eqb v.b w.b) c.0 in
-    let a = both_yes (eqb v.kind w.kind) (eqb v.a w.a) b.0 in
+    let d = and_parts _ (eqb v.d w.d) e in
+    let c = and_parts _ (eqb v.c w.c) d.0 in
+    let b = and_parts _ (eqb v.b w.b) c.0 in
+    let a = and_parts (eqb v.kind w.kind) (eqb v.a w.a) b.0 in
     words_ext v.kind v.a v.b v.c v.d w.kind w.a w.b w.c w.d
     (eqb-true v.kind w.kind a.0) (eqb-true v.a w.a a.1) (eqb-true v.b w.b b.1) (eqb-true v.c w.c c.1) (eqb-true v.d w.d d.1)
 
@@ -42,7 +42,7 @@ name_is_at tags units name i e = subst (λ (n : Name). (eqb (get_or tags i 0) n.
 pub at_name : (tags : List ℕ) (units : List (List ℕ)) (name : Name) (i : ℕ) → is_at tags units name i ≡ true → name_at tags units i ≡ name
 unfolding is_at
 at_name tags units name i e =
-    let a = both_yes (eqb (get_or tags i 0) name.tag) _ e in
+    let a = and_parts (eqb (get_or tags i 0) name.tag) _ e in
     name_ext (get_or tags i 0) name.tag (words_at units i) name.words (eqb-true (get_or tags i 0) name.tag a.0) (words_same (words_at units i) name.words a.1)
 
 -- one just added does

@@ -1,7 +1,10 @@
--- The unit records as lent slices: the lists that they hold, and that the slices are the same ones. Definitions only.
+-- Rows as lent slices: the lists that they hold, their sizes, and that the slices are the same ones. Definitions only.
 use Rattle.std.specs.Prelude.{ℕ, List, ◌≡◌, length}
 use Rattle.store.specs.Store.{Rows, rows}
-use Rattle.store.specs.declared.Records.{Records}
+use Rattle.store.specs.declared.records.Records.{Records}
+use Rattle.store.specs.declared.lent.Lent.{Lent}
+use Rattle.store.specs.declared.lent.LentRead.{LentRead}
+use Rattle.store.specs.declared.lent.Sizes.{Sizes}
 
 -- the lent lists
 abbrev pub held : Records → Rows
@@ -15,3 +18,35 @@ pub record SameSlices (was is : Records) : Type 0 where
   pub tags_length : length is.tags.now ≡ length was.tags.now
   pub units_length : length is.units.now ≡ length was.units.now
   pub uses_length : length is.uses.now ≡ length was.uses.now
+
+-- ---- all rows lent to a call
+abbrev pub sizes : ℕ → ℕ → ℕ → ℕ → Sizes
+sizes tags units uses counted = record { tags = tags; units = units; uses = uses; counted = counted }
+
+-- what f says of the sizes
+abbrev pub of_sizes : {A : Type 0} → (ℕ → ℕ → ℕ → ℕ → A) → Sizes → A
+of_sizes f s = f s.tags s.units s.uses s.counted
+
+abbrev pub lent_rows : Lent → Rows
+lent_rows l = rows l.tags.now l.units.now l.uses.now
+
+abbrev pub lent_sizes : Lent → Sizes
+lent_sizes l = sizes (length l.tags.now) (length l.units.now) (length l.uses.now) (length l.counted.now)
+
+abbrev pub read_rows : LentRead → Rows
+read_rows l = rows l.tags.now l.units.now l.uses.now
+
+abbrev pub read_sizes : LentRead → Sizes
+read_sizes l = sizes (length l.tags.now) (length l.units.now) (length l.uses.now) (length l.counted.now)
+
+-- what f says of the sizes of the unit records and of the counted rows
+abbrev pub of_read : {A : Type 0} → (ℕ → ℕ → ℕ → List (List ℕ) → A) → LentRead → A
+of_read f l = f (length l.tags.now) (length l.units.now) (length l.uses.now) l.counted.now
+
+-- the same slices, as long as they were
+pub record SameLent (was is : Lent) : Type 0 where
+  pub tags_name : is.tags.ghost_name ≡ was.tags.ghost_name
+  pub units_name : is.units.ghost_name ≡ was.units.ghost_name
+  pub uses_name : is.uses.ghost_name ≡ was.uses.ghost_name
+  pub counted_name : is.counted.ghost_name ≡ was.counted.ghost_name
+  pub sizes_same : lent_sizes is ≡ lent_sizes was

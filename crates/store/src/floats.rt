@@ -7,15 +7,12 @@ use super::UseRow;
 use flow::DIMS;
 
 // The part for each dimension that begins at `from`.
+#[tactic(auto, unfolding(crate::specs::Store::part))]
 pub fn part(row: UseRow, from: usize) -> [f64; DIMS]
     requires { from + dims ≤ dims + dims }
     ensures { result ≡ store.part row from }
 {
-    let mut out = [0.0; DIMS];
-    for d in 0..DIMS {
-        out[d] = row[from + d];
-    }
-    out
+    flow::per_dim(|d| row[from + d])
 }
 
 // Both parts one after the other.

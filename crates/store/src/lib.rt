@@ -2,17 +2,38 @@
 #![tactic(auto)]
 
 ghost use Rattle.std.specs.Prelude.{◌≡◌, ◌<◌, ◌≤◌, length};
-ghost use Rattle.store.specs.Held.{held, SameSlices};
 ghost use Rattle.store.specs.Store as store;
+ghost use Rattle.store.specs.Causes as causes;
 
 mod floats;
+mod lent;
+mod records;
 
-use floats::{joined, part};
-use flow::{DIMS, Use};
-use sender::{Name, Words};
+use flow::DIMS;
+pub use lent::{Lent, LentRead, Sizes};
+pub use records::Records;
+use sender::Words;
 
 // Causes of a cut. A source counts its cuts for each.
 pub const CAUSES: usize = 3;
+
+// Why a batch was cut.
+#[derive(Clone, Copy)]
+pub enum Cause {
+    ReceiverCeiling,
+    OverShare,
+    RelayRate,
+}
+
+// A cause's place among the counts.
+impl From<Cause> for usize {
+    ghost from_gives = { λ cause i. (i ≡ causes.index_of cause) × (i < store.«CAUSES») };
+
+    #[tactic(auto, unfolding(crate::specs::Causes::index_of))]
+    fn from(cause: Cause) -> usize {
+        cause as usize
+    }
+}
 
 // A unit's words, its stamp and its fresh mark.
 pub type UnitRow = [u64; 7];
@@ -22,8 +43,6 @@ pub type UseRow = [f64; 2 * DIMS];
 
 // A counted source: its words, and its cuts by cause.
 pub type SourceRow = [u64; 5 + CAUSES];
-
-// ---- a record: a tag, a row of the unit's words, stamp and fresh mark, and a row of floats
 
 // The unit that the row at i names by its first five words: a record's, or a counted source's.
 #[tactic(auto, unfolding(crate::specs::Store::words_at))]
@@ -40,85 +59,4 @@ pub fn words_at<const N: usize>(rows: &[[u64; N]], i: usize) -> Words
         c: row[3],
         d: row[4],
     }
-}
-
-// The unit records in lent memory: of each a tag, a row of words and a row of floats.
-#[derive(Drop)]
-pub struct Records<'a> {
-    pub tags: &'a mut [u16],
-    pub units: &'a mut [UnitRow],
-    pub uses: &'a mut [UseRow],
-}
-
-impl Records<'_> {
-    // The use of the record at i.
-    #[tactic(auto, unfolding(crate::specs::Store::use_at))]
-    pub fn use_at(&self, i: usize) -> Use
-        requires i_in_bounds { i < length self.now.units.now }
-        requires i_in_bounds_2 { i < length self.now.uses.now }
-        ensures { result ≡ store.use_at self.now.units.now self.now.uses.now i }
-    {
-        Use {
-            attempted: part(self.uses[i], 0),
-            credit: part(self.uses[i], DIMS),
-            at_ms: self.units[i][5],
-            fresh: self.units[i][6],
-        }
-    }
-
-    #[tactic(auto, unfolding(crate::specs::Store::stamp_at))]
-    pub fn stamp_at(&self, i: usize) -> u64
-        requires { i < length self.now.units.now }
-        ensures { result ≡ store.stamp_at self.now.units.now i }
-    {
-        self.units[i][5]
-    }
-
-    // The table of the record's tag.
-    #[tactic(auto, unfolding(crate::specs::Store::table_at))]
-    pub fn table_at(&self, i: usize) -> usize
-        requires { i < length self.now.tags.now }
-        ensures { result ≡ store.table_at self.now.tags.now i }
-    {
-        sender::table_of_tag(self.tags[i])
-    }
-
-    // The use put into the record; its unit stays.
-    #[tactic(auto, unfolding(crate::specs::Store::units_put, crate::specs::Store::uses_put))]
-    pub fn put_use(&mut self, i: usize, used: Use)
-        requires i_in_bounds { i < length self.old.units.now }
-        requires i_in_bounds_2 { i < length self.old.uses.now }
-        ensures tags_after { self.new.tags.now ≡ self.old.tags.now }
-        ensures units_after { self.new.units.now ≡ store.units_put self.old.units.now i used }
-        ensures uses_after { self.new.uses.now ≡ store.uses_put self.old.uses.now i used }
-        ensures slices { SameSlices self.old self.new }
-    {
-        let row = &mut self.units[i];
-        row[5] = used.at_ms;
-        row[6] = used.fresh;
-        self.uses[i] = joined(used.attempted, used.credit);
-    }
-
-    // A record of the unit written at i.
-    #[tactic(auto, unfolding(crate::specs::Store::added))]
-    pub fn add(&mut self, i: usize, name: Name, used: Use)
-        requires i_in_bounds { i < length self.old.tags.now }
-        requires i_in_bounds_2 { i < length self.old.units.now }
-        requires i_in_bounds_3 { i < length self.old.uses.now }
-        ensures rows_after { held self.new ≡ store.added (held self.old) i name used }
-        ensures slices { SameSlices self.old self.new }
-    {
-        let Words { kind, a, b, c, d } = name.words;
-        self.tags[i] = name.tag;
-        self.units[i] = [kind, a, b, c, d, used.at_ms, used.fresh];
-        self.uses[i] = joined(used.attempted, used.credit);
-    }
-}
-
-// The same unit: raw words are compared, so that a row of any bits is only itself.
-#[tactic(auto, unfolding(crate::specs::Store::same))]
-pub fn same(v: Words, w: Words) -> bool
-    ensures { result ≡ store.same v w }
-{
-    v == w
 }

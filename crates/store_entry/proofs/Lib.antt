@@ -1,3 +1,2 @@
--- Own: the unit is in its record. Names: a unit's name has its words.
+-- Own: the unit is in its record.
 pub mod Own
-pub mod Names

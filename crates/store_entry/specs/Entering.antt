@@ -1,6 +1,6 @@
 -- The record that a call uses: found, added, or overflow's; read and put back. Definitions only.
 -- Definitions are shut (`unfoldable`): a proof opens the one that it is about.
-use Rattle.std.specs.Prelude.{ℕ, ◌+◌, cond, List, ltb, length, Float}
+use Rattle.std.specs.Prelude.{ℕ, ◌+◌, cond, List, ltb, length, Float, unwrap_or}
 use Rattle.flow.specs.Flow as flow
 use Rattle.flow.specs.declared.Use.{Use}
 use Rattle.sender.specs.declared.Unit as unit
@@ -9,7 +9,12 @@ use Rattle.store.specs.Store as store
 use Rattle.store.specs.Store.{Rows}
 use Rattle.head.specs.declared.Flow.{Flow}
 use Rattle.head.specs.declared.Shedder.{Shedder}
-use Rattle.store_entry.specs.declared.Place.{Place}
+use Rattle.store_entry.specs.declared.Place as code
+
+-- where a unit's record is, the room for overflow's; and how many there are then
+pub record Place : Type 0 where
+  pub at : ℕ
+  pub tracked : ℕ
 
 -- a place, and the rows
 pub record Entered : Type 0 where
@@ -21,6 +26,10 @@ entered p m = record { place = p; rows = m }
 
 abbrev pub place : ℕ → ℕ → Place
 place i n = record { at = i; tracked = n }
+
+-- the code's place, whose none is the room
+abbrev pub placed : ℕ → code.Place → Place
+placed room p = place (unwrap_or p.at room) p.tracked
 
 -- the unit's record; a new one, stamped clock, where there is room; else overflow's, whose place is the room
 unfoldable pub entry : Rows → ℕ → ℕ → unit.Unit → ℕ → Entered

@@ -13,7 +13,8 @@ use store::Records;
 // How long a unit that sends nothing stays tracked.
 pub const RETAIN_MS: u64 = 4 * flow::WINDOW_MS;
 
-// Of the table and older than that. The table is asked first: it reads the tag alone.
+// Of the table and older than that. The table is asked first: it reads the tag alone. Table and stamp stay two parameters, as in
+// scan.
 #[tactic(auto, unfolding(crate::specs::Retain::is_stale, store::specs::Store::in_table))]
 pub fn is_stale(records: &Records<'_>, i: usize, table: usize, at_ms: u64) -> bool
     requires i_in_bounds { i < length records.now.tags.now }

@@ -1,19 +1,30 @@
 -- The first place at which two tests pass, found by the first test. Assumes nothing.
-use Rattle.std.proofs.Common.{◌≡◌, ℕ, ◌<◌, ◌≤◌, Bool, true, false, ◌&&◌, refl, sym, ap, ◌∙◌, arith}
-use native.Mathlib.Decide.{dec_lt}
+use Rattle.std.proofs.Common.{◌≡◌, ℕ, ◌<◌, Bool, true, false, ◌&&◌, refl, sym, ap, ◌∙◌, arith, Option, Some, None, MatchOption, IfSome}
 use Rattle.store.specs.Store.{first}
+use Rattle.store.specs.Found.{found}
+use Rattle.store.proofs.Found.{some_found, none_found}
 use Rattle.store.proofs.Steps.{first_all, first_found}
 
 fails : (b c : Bool) → (b ≡ true → c ≡ false) → b && c ≡ false
 fails true c f = f refl
 fails false c f = refl
 
-pub first_is : (p : ℕ → Bool) (n r : ℕ) → r ≤ n → ((k : ℕ) → k < r → p k ≡ false) → (r < n → p r ≡ true) → first p n ≡ r
-first_is p n r h f g = elim (dec_lt r n) [
-  | yes l ↦ first_found p n r l (first_all p r (λ k a b. f k b)) (g l)
-  | no l ↦ (let e : n ≡ r = omega arith in ap (first p) e ∙ first_all p r (λ k a b. f k b))
-]
+-- what `find_tagged` gives: t is the test of the tag, s that of the place; f and g tell what its answer says of them
+module _ (t s : ℕ → Bool) (n : ℕ) where
+  abbrev pub both : ℕ → Bool
+  both k = t k && s k
 
-pub first_of : (t s : ℕ → Bool) (n r : ℕ) → r ≤ n → ((k : ℕ) → k < r → t k ≡ true → s k ≡ false) → (r < n → t r ≡ true) → (r < n → s r ≡ true)
-    → r ≡ first (λ (k : ℕ). t k && s k) n
-first_of t s n r h f g j = sym (first_is (λ (k : ℕ). t k && s k) n r h (λ k l. fails (t k) (s k) (f k l)) (λ l. simp (g l, j l)))
+  -- of the first r places that pass t none passes s
+  abbrev pub Lacks : ℕ → Type 0
+  Lacks r = (k : ℕ) → k < r → t k ≡ true → s k ≡ false
+
+  lacking : (r : ℕ) → Lacks r → first both r ≡ r
+  lacking r f = first_all both r (λ k a b. fails (t k) (s k) (f k b))
+
+  pub first_of : {P : Type 0} {Q : ℕ → Type 0} (r : Option ℕ) → MatchOption r P Q → IfSome r (λ i. i < n)
+      → (P → Lacks n) → ((i : ℕ) → i < n → Q i → ((t i ≡ true) × (s i ≡ true)) × Lacks i) → r ≡ found n (first both n)
+  first_of None w l f g = sym (none_found n (first both n) (omega (arith, lacking n (f w))))
+  first_of (Some i) w l f g =
+      let h = g i l w in
+      let e = first_found both n i l (lacking i h.1) (simp (h.0.0, h.0.1)) in
+      sym (ap (found n) e ∙ some_found n i l)

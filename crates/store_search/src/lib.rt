@@ -1,8 +1,10 @@
-// Searches over the records: the record of a unit, and the next record of a table.
+// Searches over the records: the record of a unit, and the next record of a table. Those in use are the first n of a longer slice;
+// n stays beside it, since the definitions speak of places of the whole slice.
 #![tactic(auto)]
 
-ghost use Rattle.std.specs.Prelude.{◌≡◌, ℕ, true, ◌<◌, ◌≤◌, ◌+◌, ◌==◌, false, length};
+ghost use Rattle.std.specs.Prelude.{◌≡◌, ℕ, true, ◌<◌, ◌≤◌, ◌+◌, ◌==◌, false, length, IfSome, MatchOption};
 ghost use Rattle.sender.specs.Sender as sender;
+ghost use Rattle.store.specs.Found.{found};
 ghost use Rattle.store.specs.Store as store;
 ghost use Rattle.store_search.specs.Passing as passing;
 
@@ -27,7 +29,8 @@ fn any_passes<const STEP: usize, F: Fn(u16) -> bool>(tags: &[u16], i: usize, pas
     met
 }
 
-// A place up to n before which no tag from `from` on passes, in steps of STEP.
+// A place up to n before which no tag from `from` on passes, in steps of STEP. The answer of this and of the three `next` is a
+// number, not an Option: their callers go on from it up to n.
 fn skip<const STEP: usize, F: Fn(u16) -> bool>(
     tags: &[u16],
     from: usize,
@@ -38,9 +41,7 @@ fn skip<const STEP: usize, F: Fn(u16) -> bool>(
     requires from_le_n { from ≤ n }
     requires n_in_bounds { n ≤ length tags.now }
     requires callable { F.IsAlwaysCallable passes }
-    ensures lower_bound { from ≤ result }
-    ensures upper_bound { result ≤ n }
-    ensures none { passing.None (F.post passes) tags.now from result }
+    ensures { passing.Passed (F.post passes) tags.now from n result }
 {
     let mut i = from;
     // A `while`: a stepped range asks for a proof that its end fits, and its last block may be short.
@@ -61,9 +62,7 @@ fn next<const STEP: usize, F: Fn(u16) -> bool>(
     requires from_le_n { from ≤ n }
     requires n_in_bounds { n ≤ length tags.now }
     requires callable { F.IsAlwaysCallable passes }
-    ensures lower_bound { from ≤ result }
-    ensures upper_bound { result ≤ n }
-    ensures none { passing.None (F.post passes) tags.now from result }
+    ensures passed { passing.Passed (F.post passes) tags.now from n result }
     ensures result_value { result < n → passing.Passes (F.post passes) tags.now result }
 {
     let skipped = skip::<STEP, &F>(tags, from, n, &passes);
@@ -88,41 +87,55 @@ pub fn next_tagged(tags: &[u16], from: usize, n: usize, tag: u16) -> usize
     next::<FAR, _>(tags, from, n, |x| x == tag)
 }
 
-// The first of n records that has the tag and is sought, else n: a search reads 2 bytes of each record. Another unit may have the
-// same tag: then the search goes on behind it.
-pub fn find_tagged<F: Fn(usize) -> bool>(tags: &[u16], n: usize, tag: u16, is_sought: F) -> usize
+// The first of n records that has the tag and is sought: a search reads 2 bytes of each record. Another unit may have the same
+// tag: then the search goes on behind it.
+pub fn find_tagged<F: Fn(usize) -> bool>(
+    tags: &[u16],
+    n: usize,
+    tag: u16,
+    is_sought: F,
+) -> Option<usize>
     requires n_in_bounds { n ≤ length tags.now }
     requires callable { (i : ℕ) → i < n → F.pre is_sought i }
-    ensures upper_bound { result ≤ n }
-    ensures none { (k : ℕ) → k < result → store.has_tag tags.now tag k ≡ true → F.post is_sought k false }
-    ensures tag_found { result < n → store.has_tag tags.now tag result ≡ true }
-    ensures found { result < n → F.post is_sought result true }
+    ensures value { MatchOption result (passing.NoneSought (F.post is_sought) tags.now tag n)
+        (λ i. passing.Sought (F.post is_sought) tags.now tag i × passing.NoneSought (F.post is_sought) tags.now tag i) }
+    ensures upper_bound { IfSome result (λ i. i < n) }
 {
     let mut i = next_tagged(tags, 0, n, tag);
     // A `while`: the next place is the search's.
     while i < n && !is_sought(i) {
         i = next_tagged(tags, i + 1, n, tag);
     }
-    i
+    (i < n).then_some(i)
 }
 
-// Whether the record's words are these.
+// Whether the record's words are these: raw words are compared, so that a row of any bits is only itself.
+#[tactic(auto, unfolding(store::specs::Store::same))]
 fn has_words(units: &[UnitRow], i: usize, words: Words) -> bool
     requires { i < length units.now }
     ensures { result ≡ store.same (store.words_at units.now i) words }
 {
-    store::same(store::words_at(units, i), words)
+    store::words_at(units, i) == words
 }
 
-// The first of n records that is the unit's, else n.
-pub fn find(records: &Records<'_>, n: usize, name: Name) -> usize
+// The first of n records that is the unit's.
+pub fn find(records: &Records<'_>, n: usize, name: Name) -> Option<usize>
     requires n_in_bounds { n ≤ length records.now.tags.now }
     requires n_in_bounds_2 { n ≤ length records.now.units.now }
-    ensures { result ≡ store.find records.now.tags.now records.now.units.now name n }
+    ensures value { result ≡ found n (store.find records.now.tags.now records.now.units.now name n) }
+    ensures upper_bound { IfSome result (λ i. i < n) }
 {
-    find_tagged(records.tags, n, name.tag, |i| {
-        has_words(records.units, i, name.words)
-    })
+    find_in(records.tags, records.units, n, name)
+}
+
+// The same in rows of which nothing else is known.
+pub fn find_in(tags: &[u16], units: &[UnitRow], n: usize, name: Name) -> Option<usize>
+    requires n_in_bounds { n ≤ length tags.now }
+    requires n_in_bounds_2 { n ≤ length units.now }
+    ensures value { result ≡ found n (store.find tags.now units.now name n) }
+    ensures upper_bound { IfSome result (λ i. i < n) }
+{
+    find_tagged(tags, n, name.tag, |i| has_words(units, i, name.words))
 }
 
 // Whether a tag is of the table, compared in 16 bits.

@@ -7,7 +7,7 @@ use Rattle.sender.specs.declared.Unit.{Unit}
 use Rattle.store.specs.Store.{Rows}
 use Rattle.wants.specs.Wants.{Hist}
 use Rattle.head.specs.declared.Shedder.{Shedder}
-use Rattle.head.specs.declared.Cause.{Cause}
+use Rattle.store.specs.declared.Cause.{Cause}
 use Rattle.head.specs.declared.Starting.{Starting}
 use Rattle.head.specs.Answers.{start_number, cut_number}
 use Rattle.head.specs.Start as starts

@@ -1,6 +1,6 @@
 // The calls for relays in Rust or C. `rt lib` in this folder makes the archive that they link, out/libtankpost.a.
 // The head goes in and comes back by value; all other memory is lent. In C a slice is a pointer and a count, a reference to
-// an array is a pointer. Any bits may stand in head and memory. Each contract cites the page of crate meaning.
+// an array is a pointer: so the exported functions take each slice by itself, and lend them on as one. Any bits may stand in head and memory. Each contract cites the page of crate meaning.
 #![tactic(auto)]
 
 ghost use Rattle.std.specs.Prelude.{◌≡◌};
@@ -17,9 +17,9 @@ ghost use Rattle.tankpost.specs.Calls.{judged_as, reported, report_told};
 use codes::{Count, Decision, Level};
 use flow::DIMS;
 use head::Shedder;
-use sender::Words;
-use store::{SourceRow, UnitRow, UseRow};
-use wants::{Counts, Sums};
+use sender::{Unit, Words};
+use store::{Lent, LentRead, SourceRow, UnitRow, UseRow};
+use wants::{Counts, Histogram, Sums};
 
 // A call's answer as a number (crate codes), and the head after it.
 #[repr(C)]
@@ -56,9 +56,14 @@ pub extern "C" fn tankpost_start(
         (page.start (state head tags.now units.now uses.now counts.old sums.old counted.now)
         rate.now ceiling.now)) }
 {
-    let s = head::start(
-        head, tags, units, uses, counts, sums, counted, *rate, *ceiling,
-    );
+    let lent = LentRead {
+        tags,
+        units,
+        uses,
+        counted,
+    };
+    let mut histogram = Histogram { counts, sums };
+    let s = head::start(head, &lent, &mut histogram, *rate, *ceiling);
     Answered {
         answer: codes::answer_number(s.answer),
         head: s.head,
@@ -85,15 +90,18 @@ pub extern "C" fn tankpost_judge(
         (state head tags.old units.old uses.old counts.old sums.old counted.old)
         (unit_of unit) cost.now stamp) }
 {
-    let j = judge::judge(
-        head,
+    let mut lent = Lent {
         tags,
         units,
         uses,
-        counts,
-        sums,
         counted,
-        sender::unit_of(unit),
+    };
+    let mut histogram = Histogram { counts, sums };
+    let j = judge::judge(
+        head,
+        &mut lent,
+        &mut histogram,
+        Unit::from(unit),
         *cost,
         stamp,
     );
@@ -121,13 +129,16 @@ pub extern "C" fn tankpost_cut(
         (page.cut (state_with g head tags.old units.old uses.old counted.old)
         (unit_of unit) (cause_of cause) cost.now)) }
 {
-    let c = cut::cut(
-        head,
+    let mut lent = Lent {
         tags,
         units,
         uses,
         counted,
-        sender::unit_of(unit),
+    };
+    let c = cut::cut(
+        head,
+        &mut lent,
+        Unit::from(unit),
         codes::cause_of(cause),
         *cost,
     );
@@ -150,7 +161,13 @@ pub extern "C" fn tankpost_report(
     ensures { (g : Hist) → reported result out.new
         ≡ report_told (page.report (state_with g head tags.now units.now uses.now counted.now) out.old) }
 {
-    codes::read_written(report::write_report(head, tags, units, uses, counted, out))
+    let lent = LentRead {
+        tags,
+        units,
+        uses,
+        counted,
+    };
+    codes::read_written(report::write_report(head, &lent, out))
 }
 
 // report::report_refusal: the number of the refusal, 0 where the report would be written.
@@ -165,7 +182,13 @@ pub extern "C" fn tankpost_report_refusal(
 ) -> u64
     ensures { (g : Hist) → result ≡ page.report_refusal (state_with g head tags.now units.now uses.now counted.now) out.now }
 {
-    codes::answer_number(report::report_refusal(head, tags, units, uses, counted, out))
+    let lent = LentRead {
+        tags,
+        units,
+        uses,
+        counted,
+    };
+    codes::answer_number(report::report_refusal(head, &lent, out))
 }
 
 // ---- the readings

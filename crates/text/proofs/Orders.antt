@@ -9,6 +9,7 @@ use borrow.Author.Tests.{eq-eqb, ne_eqb, eqb-true, ltb-true, ltb-false, lt-ltb}
 use lib.Dec.{eqb, ltb}
 use Rattle.std.proofs.Common.{Some}
 use Rattle.std.proofs.lemmas.Cmp.{same_from_slice_cmp_tested}
+use Rattle.std.proofs.lemmas.Bool.{and_parts}
 use Rattle.std.proofs.lemmas.Bool.Decides.{nat_tests}
 use Rattle.std.specs.Cmp.Lexicographic.{pointwise, slice_partial_cmp}
 use Rattle.std.specs.Ordering.{nat_cmp, is_lt, is_some_and}
@@ -32,17 +33,13 @@ unfolding same
 same_refl [] = refl
 same_refl (x ∷ a) = simp (eq-eqb x x refl) (same_refl a)
 
-pub both_yes : (t s : Bool) → t && s ≡ true → (t ≡ true) × (s ≡ true)
-both_yes true s e = (refl, e)
-both_yes false s e = absurd (false≢true e)
-
 pub same_eq : (a b : List ℕ) → same a b ≡ true → a ≡ b
 unfolding same
 same_eq [] [] e = refl
 same_eq [] (y ∷ b) e = absurd (false≢true e)
 same_eq (x ∷ a) [] e = absurd (false≢true e)
 same_eq (x ∷ a) (y ∷ b) e =
-    let w = both_yes (eqb x y) (same a b) e in
+    let w = and_parts (eqb x y) (same a b) e in
     let h = same_eq a b w.1 in
     let k = eqb-true x y w.0 in
     cc

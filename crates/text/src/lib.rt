@@ -1,4 +1,4 @@
-// Text in a lent buffer: bytes and numbers put at a place, and byte strings compared.
+// Text in a lent buffer: bytes and numbers put at a place, and the order of byte strings (their equality is std's `==`; specs/Order has both).
 #![tactic(auto)]
 
 mod order;
@@ -7,7 +7,7 @@ mod page;
 ghost use Rattle.std.specs.Prelude.{◌≡◌, length};
 ghost use Rattle.text.specs.Number as number;
 
-pub use order::{less, same};
+pub use order::less;
 pub use page::Page;
 
 // How many bytes Page::put_decimal writes.

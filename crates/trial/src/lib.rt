@@ -2,19 +2,21 @@
 #![tactic(auto)]
 
 ghost use Rattle.std.specs.Prelude.{◌≡◌, true, false};
-ghost use Rattle.store.specs.Store.{rows};
-ghost use Rattle.wants.specs.Wants.{Hist, hist};
+ghost use Rattle.store.specs.Held.{lent_rows, SameLent};
+ghost use Rattle.wants.specs.Wants.{Hist};
+ghost use Rattle.wants.specs.Held.{SameArrays};
 ghost use Rattle.head.specs.Bits.{SameButNanBits};
 ghost use Rattle.judge.specs.Judging.{Memory, memory};
+ghost use Rattle.judge.specs.Lending.{lent_memory};
 ghost use Rattle.text.specs.Pages.{seen};
 ghost use Rattle.trial.specs.Trial as trial;
 
 use flow::{Bucket, DIMS, Use};
 use head::{CAUSES, Flow, Refusal, Scan, Shedder};
-use store::{SourceRow, UnitRow, UseRow};
+use store::Lent;
 use text::Page;
 use trial_script::{CutLine, JudgeLine, LINE_MOST, Line, StartLine};
-use wants::{Counts, Sums};
+use wants::Histogram;
 
 // The trial's sizes: unit records, counted records, the report's buffer.
 pub const UNITS: usize = 256;
@@ -93,6 +95,7 @@ pub fn unstarted() -> Trial
     }
 }
 
+#[tactic(auto, using(crate::proofs::Steps::refused_step))]
 fn refused(t: Trial, page: &mut Page<'_>, n: u64) -> Trial
     ensures same_reference { page.new.out.ghost_name ≡ page.old.out.ghost_name }
     ensures value { (m : Memory) → trial.state result m (seen page.new) ≡ trial.refused (trial.state t m (seen page.old)) n }
@@ -103,29 +106,20 @@ fn refused(t: Trial, page: &mut Page<'_>, n: u64) -> Trial
 
 fn start(
     t: Trial,
-    tags: &[u16],
-    units: &[UnitRow],
-    uses: &[UseRow],
-    counts: &mut Counts,
-    sums: &mut Sums,
-    counted: &[SourceRow],
+    lent: &Lent<'_>,
+    histogram: &mut Histogram<'_>,
     l: StartLine,
     page: &mut Page<'_>,
 ) -> Trial
     ensures same_reference { page.new.out.ghost_name ≡ page.old.out.ghost_name }
-    ensures value { trial.state result
-        (memory (rows tags.now units.now uses.now) (hist counts.new sums.new) counted.now) (seen page.new)
-        ≡ trial.start
-        (trial.state t (memory (rows tags.now units.now uses.now) (hist counts.old sums.old) counted.now) (seen page.old)) l }
+    ensures arrays { SameArrays histogram.old histogram.new }
+    ensures value { trial.state result (lent_memory lent.now histogram.new) (seen page.new)
+        ≡ trial.start (trial.state t (lent_memory lent.now histogram.old) (seen page.old)) l }
 {
     let s = head::start(
         t.head,
-        tags,
-        units,
-        uses,
-        counts,
-        sums,
-        counted,
+        &lent.read(),
+        histogram,
         l.rate.into(),
         l.ceiling.into(),
     );
@@ -136,37 +130,24 @@ fn start(
     }
 }
 
+#[tactic(auto, using(crate::proofs::Steps::judge_refused))]
 fn judge(
     t: Trial,
-    tags: &mut [u16],
-    units: &mut [UnitRow],
-    uses: &mut [UseRow],
-    counts: &mut Counts,
-    sums: &mut Sums,
-    counted: &mut [SourceRow],
+    lent: &mut Lent<'_>,
+    histogram: &mut Histogram<'_>,
     l: JudgeLine,
     page: &mut Page<'_>,
 ) -> Trial
     ensures same_reference { page.new.out.ghost_name ≡ page.old.out.ghost_name }
-    ensures value { trial.state result (memory (rows tags.new units.new uses.new) (hist counts.new sums.new) counted.new) (seen page.new)
-        ≡ trial.judge
-        (trial.state t (memory (rows tags.old units.old uses.old) (hist counts.old sums.old) counted.old) (seen page.old)) l }
+    ensures slices { SameLent lent.old lent.new }
+    ensures arrays { SameArrays histogram.old histogram.new }
+    ensures value { trial.state result (lent_memory lent.new histogram.new) (seen page.new)
+        ≡ trial.judge (trial.state t (lent_memory lent.old histogram.old) (seen page.old)) l }
 {
     if !t.is_started {
         return refused(t, page, NO_FORM);
     }
-    let j = judge::judge(
-        t.head,
-        tags,
-        units,
-        uses,
-        counts,
-        sums,
-        counted,
-        l.unit,
-        l.cost.into(),
-        l.stamp,
-    );
+    let j = judge::judge(t.head, lent, histogram, l.unit, l.cost.into(), l.stamp);
     trial_script::put_answer(page, j.answer);
     Trial {
         head: j.head,
@@ -174,32 +155,17 @@ fn judge(
     }
 }
 
-fn cut(
-    t: Trial,
-    tags: &mut [u16],
-    units: &mut [UnitRow],
-    uses: &mut [UseRow],
-    counted: &mut [SourceRow],
-    l: CutLine,
-    page: &mut Page<'_>,
-) -> Trial
+#[tactic(auto, using(crate::proofs::Steps::cut_refused))]
+fn cut(t: Trial, lent: &mut Lent<'_>, l: CutLine, page: &mut Page<'_>) -> Trial
     ensures same_reference { page.new.out.ghost_name ≡ page.old.out.ghost_name }
-    ensures value { (g : Hist) → trial.state result (memory (rows tags.new units.new uses.new) g counted.new) (seen page.new)
-        ≡ trial.cut (trial.state t (memory (rows tags.old units.old uses.old) g counted.old) (seen page.old)) l }
+    ensures slices { SameLent lent.old lent.new }
+    ensures value { (g : Hist) → trial.state result (memory (lent_rows lent.new) g lent.new.counted.now) (seen page.new)
+        ≡ trial.cut (trial.state t (memory (lent_rows lent.old) g lent.old.counted.now) (seen page.old)) l }
 {
     if !t.is_started {
         return refused(t, page, NO_FORM);
     }
-    let c = cut::cut(
-        t.head,
-        tags,
-        units,
-        uses,
-        counted,
-        l.unit,
-        l.cause,
-        l.cost.into(),
-    );
+    let c = cut::cut(t.head, lent, l.unit, l.cause, l.cost.into());
     trial_script::put_done(page, c.answer);
     Trial {
         head: c.head,
@@ -207,57 +173,49 @@ fn cut(
     }
 }
 
-fn report(
-    t: Trial,
-    tags: &[u16],
-    units: &[UnitRow],
-    uses: &[UseRow],
-    counted: &[SourceRow],
-    page: &mut Page<'_>,
-) -> Trial
+#[tactic(auto, using(crate::proofs::Steps::report_unstarted))]
+fn report(t: Trial, lent: &Lent<'_>, page: &mut Page<'_>) -> Trial
     ensures same_reference { page.new.out.ghost_name ≡ page.old.out.ghost_name }
-    ensures value { (g : Hist) → trial.state result (memory (rows tags.now units.now uses.now) g counted.now) (seen page.new)
-        ≡ trial.report (trial.state t (memory (rows tags.now units.now uses.now) g counted.now) (seen page.old)) }
+    ensures value { (g : Hist) → trial.state result (memory (lent_rows lent.now) g lent.now.counted.now) (seen page.new)
+        ≡ trial.report (trial.state t (memory (lent_rows lent.now) g lent.now.counted.now) (seen page.old)) }
 {
     if !t.is_started {
         return refused(t, page, NO_FORM);
     }
+    let rows = lent.read();
     let mut own = [0u8; REPORT];
-    if let Err(refusal) = report::report_refusal(t.head, tags, units, uses, counted, &own) {
+    if let Err(refusal) = report::report_refusal(t.head, &rows, &own) {
         return refused(t, page, u64::from(refusal));
     }
-    let front = report::report(t.head, tags, units, uses, counted, &mut own);
+    let front = report::report(t.head, &rows, &mut own);
     page.put(front);
     t
 }
 
 // Answers one line: the text goes to the page.
+#[tactic(auto, using(crate::proofs::Steps::answer_long, crate::proofs::Steps::answer_line), unfolding(crate::specs::Trial::call))]
 pub fn answer(
     t: Trial,
-    tags: &mut [u16],
-    units: &mut [UnitRow],
-    uses: &mut [UseRow],
-    counts: &mut Counts,
-    sums: &mut Sums,
-    counted: &mut [SourceRow],
+    lent: &mut Lent<'_>,
+    histogram: &mut Histogram<'_>,
     line: &[u8],
     page: &mut Page<'_>,
 ) -> Trial
     ensures same_reference { page.new.out.ghost_name ≡ page.old.out.ghost_name }
+    ensures slices { SameLent lent.old lent.new }
+    ensures arrays { SameArrays histogram.old histogram.new }
     ensures value { SameButNanBits
-        (trial.state result (memory (rows tags.new units.new uses.new) (hist counts.new sums.new) counted.new) (seen page.new))
-        (trial.answer
-        (trial.state t (memory (rows tags.old units.old uses.old) (hist counts.old sums.old) counted.old) (seen page.old))
-        line.now) }
+        (trial.state result (lent_memory lent.new histogram.new) (seen page.new))
+        (trial.answer (trial.state t (lent_memory lent.old histogram.old) (seen page.old)) line.now) }
 {
     if line.len() > LINE_MOST {
         return refused(t, page, NO_FORM);
     }
     match trial_script::read_line(line) {
-        Some(Line::Start(s)) => start(t, tags, units, uses, counts, sums, counted, s, page),
-        Some(Line::Judge(j)) => judge(t, tags, units, uses, counts, sums, counted, j, page),
-        Some(Line::Cut(c)) => cut(t, tags, units, uses, counted, c, page),
-        Some(Line::Report) => report(t, tags, units, uses, counted, page),
+        Some(Line::Start(s)) => start(t, lent, histogram, s, page),
+        Some(Line::Judge(j)) => judge(t, lent, histogram, j, page),
+        Some(Line::Cut(c)) => cut(t, lent, c, page),
+        Some(Line::Report) => report(t, lent, page),
         None => refused(t, page, NO_FORM),
     }
 }

@@ -1,4 +1,4 @@
-// The memory that the trial's shedder is lent, of zero bits.
+// The memory that a program lends its shedder, for sizes that the program chooses.
 #![tactic(auto)]
 
 ghost use Rattle.std.specs.Prelude.{◌≡◌, replicate};
@@ -6,11 +6,10 @@ ghost use Rattle.ieee.specs.Doubles.{nothing};
 
 use flow::DIMS;
 use store::{SourceRow, UnitRow, UseRow};
-use trial::{COUNTED, TAGS, UNITS};
 use wants::{BUCKETS, Counts, Sums};
 
 #[derive(Clone, Copy)]
-pub struct Memory {
+pub struct Memory<const TAGS: usize, const UNITS: usize, const COUNTED: usize> {
     pub tags: [u16; TAGS],
     pub units: [UnitRow; UNITS],
     pub uses: [UseRow; UNITS],
@@ -19,14 +18,15 @@ pub struct Memory {
     pub counted: [SourceRow; COUNTED],
 }
 
-impl Memory {
-    pub fn zeroed() -> Memory
-        ensures tags { result.tags ≡ replicate 321 0 }
-        ensures units { result.units ≡ replicate 256 (replicate 7 0) }
-        ensures uses { result.uses ≡ replicate 256 (replicate 4 nothing) }
+impl<const TAGS: usize, const UNITS: usize, const COUNTED: usize> Memory<TAGS, UNITS, COUNTED> {
+    // Memory of zero bits.
+    pub fn zeroed() -> Memory<TAGS, UNITS, COUNTED>
+        ensures tags { result.tags ≡ replicate TAGS 0 }
+        ensures units { result.units ≡ replicate UNITS (replicate 7 0) }
+        ensures uses { result.uses ≡ replicate UNITS (replicate 4 nothing) }
         ensures counts { result.counts ≡ replicate 2 (replicate 768 0) }
         ensures sums { result.sums ≡ replicate 2 (replicate 768 nothing) }
-        ensures counted { result.counted ≡ replicate 65 (replicate 8 0) }
+        ensures counted { result.counted ≡ replicate COUNTED (replicate 8 0) }
     {
         Memory {
             tags: [0; TAGS],

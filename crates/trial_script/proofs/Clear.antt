@@ -17,8 +17,8 @@ use Rattle.sender.specs.declared.Group.TheVariants.{V4, V6}
 use Rattle.sender.specs.declared.Unit as unit
 use Rattle.sender.specs.declared.Unit.TheVariants.{Corroborated, Group as Grouped, NoAddress, Overflow}
 use Rattle.label.specs.Label.{label, key_label, v4_label, v6_label}
-use Rattle.head.specs.declared.Cause as cause
-use Rattle.head.specs.declared.Cause.TheVariants.{ReceiverCeiling, OverShare, RelayRate}
+use Rattle.store.specs.declared.Cause as cause
+use Rattle.store.specs.declared.Cause.TheVariants.{ReceiverCeiling, OverShare, RelayRate}
 use Rattle.trial_script.specs.Fields.{width, first, rest}
 use Rattle.trial_script.specs.Script.{cause_name}
 

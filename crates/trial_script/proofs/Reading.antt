@@ -16,8 +16,8 @@ use Rattle.std.specs.Prelude.{Some, None}
 use Rattle.label.specs.Label.{label}
 use Rattle.label_parse.specs.Parse.{parse, is_label, unit_in, InRange}
 use Rattle.label_parse.proofs.Parsing.{label_parse_lem}
-use Rattle.head.specs.declared.Cause as cause
-use Rattle.head.specs.declared.Cause.TheVariants.{ReceiverCeiling, OverShare, RelayRate}
+use Rattle.store.specs.declared.Cause as cause
+use Rattle.store.specs.declared.Cause.TheVariants.{ReceiverCeiling, OverShare, RelayRate}
 use Rattle.trial_script.specs.declared.StartLine.{StartLine}
 use Rattle.trial_script.specs.declared.JudgeLine.{JudgeLine}
 use Rattle.trial_script.specs.declared.CutLine.{CutLine}

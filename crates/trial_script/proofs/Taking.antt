@@ -10,7 +10,8 @@ use lib.ListN.{length, get_or}
 use Rattle.std.specs.Prelude.{Option, Some, None}
 use Rattle.text.specs.Number.{numeral, decimal}
 use Rattle.text.specs.Order.{same}
-use Rattle.text.proofs.Orders.{same_eq, both_yes}
+use Rattle.std.proofs.lemmas.Bool.{and_parts}
+use Rattle.text.proofs.Orders.{same_eq}
 use Rattle.label.specs.Label.{label}
 use Rattle.label_parse.specs.Parse.{is_label, unit_in}
 use Rattle.trial_script.specs.declared.Line as script
@@ -69,7 +70,7 @@ numbers_text : (k : ℕ) (s : List ℕ) → are_numbers k s ≡ true → spaced 
 unfolding are_numbers number_at spaced texts
 numbers_text zero s e = ap (λ (l : List ℕ). decimal (number_in l)) (number_first s e) ∙ number_text s e
 numbers_text (suc k) s e =
-    let w = both_yes (is_number (first s)) (are_numbers k (rest s)) e in
+    let w = and_parts (is_number (first s)) (are_numbers k (rest s)) e in
     seam s (decimal (number_in (first s))) (spaced (decimal (number_at 0 (rest s))) (texts k (rest s)))
     (number_text (first s) w.0) (numbers_text k (rest s) w.1) (numbers_some k (rest s) w.1)
 

@@ -4,8 +4,8 @@ use Rattle.text.specs.Number.{decimal}
 use Rattle.text.specs.Order.{same}
 use Rattle.label.specs.Label.{label}
 use Rattle.label_parse.specs.Parse.{is_label, unit_in, InRange}
-use Rattle.head.specs.declared.Cause as cause
-use Rattle.head.specs.declared.Cause.TheVariants.{ReceiverCeiling, OverShare, RelayRate}
+use Rattle.store.specs.declared.Cause as cause
+use Rattle.store.specs.declared.Cause.TheVariants.{ReceiverCeiling, OverShare, RelayRate}
 use Rattle.trial_script.specs.Fields.{first, rest, are_numbers, number_at}
 use Rattle.trial_script.specs.declared.Amounts.{Amounts}
 use Rattle.trial_script.specs.declared.StartLine.{StartLine}

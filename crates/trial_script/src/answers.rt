@@ -1,7 +1,8 @@
 // An answer as text, put into a page.
-ghost use Rattle.std.specs.Prelude.{◌≡◌, take};
+ghost use Rattle.std.specs.Prelude.{◌≡◌, MatchResult, take};
 ghost use Rattle.io.specs.Counts.{IsPrefixLen};
 ghost use Rattle.text.specs.Page.{write};
+ghost use Rattle.head.specs.Answers.{number_of};
 ghost use Rattle.text.specs.Pages.{seen};
 ghost use Rattle.trial_script.specs.Answers as answers;
 
@@ -12,7 +13,7 @@ use verdict::Verdict;
 // Room for `refused `, a number and a line feed.
 const REFUSED_MOST: usize = 29;
 
-// The refusal's text at the front of out; the answer is its length.
+// The refusal's text at the front of out, a local array of its caller, since there is no heap; the answer is its length.
 fn refused_text(n: u64, out: &mut [u8; REFUSED_MOST]) -> usize
     ensures prefix_len { IsPrefixLen result out.new }
     ensures out_after { take result out.new ≡ answers.refused_text n }
@@ -34,15 +35,24 @@ pub fn put_refused(page: &mut Page<'_>, n: u64)
     page.put(&own[..k]);
 }
 
+// The word of what was done, or the refusal.
+fn put_unless_refused(page: &mut Page<'_>, answer: Result<(), Refusal>, done: &[u8])
+    ensures same_reference { page.new.out.ghost_name ≡ page.old.out.ghost_name }
+    ensures value { MatchResult answer (λ _. seen page.new ≡ write (seen page.old) done.now)
+        (λ r. seen page.new ≡ write (seen page.old) (answers.refused_text (number_of r))) }
+{
+    match answer {
+        Ok(()) => page.put(done),
+        Err(refusal) => put_refused(page, refusal.into()),
+    }
+}
+
 #[tactic(auto, unfolding(crate::specs::Answers::begin_text))]
 pub fn put_begin(page: &mut Page<'_>, answer: Result<(), Refusal>)
     ensures same_reference { page.new.out.ghost_name ≡ page.old.out.ghost_name }
     ensures value { seen page.new ≡ write (seen page.old) (answers.begin_text answer) }
 {
-    match answer {
-        Ok(()) => page.put(b"started\n"),
-        Err(refusal) => put_refused(page, refusal.into()),
-    }
+    put_unless_refused(page, answer, b"started\n");
 }
 
 #[tactic(auto, unfolding(crate::specs::Answers::answer_text))]
@@ -63,8 +73,5 @@ pub fn put_done(page: &mut Page<'_>, answer: Result<(), Refusal>)
     ensures same_reference { page.new.out.ghost_name ≡ page.old.out.ghost_name }
     ensures value { seen page.new ≡ write (seen page.old) (answers.done_text answer) }
 {
-    match answer {
-        Ok(()) => page.put(b"counted\n"),
-        Err(refusal) => put_refused(page, refusal.into()),
-    }
+    put_unless_refused(page, answer, b"counted\n");
 }

@@ -62,7 +62,7 @@ fn number_in(s: &[u8]) -> u64
     s.iter().fold(0, |n, x| grown(n, *x))
 }
 
-// The decimal of n at the front of out; the answer is its length.
+// The decimal of n at the front of out, a local array of its caller, since there is no heap; the answer is its length.
 fn decimal_text(n: u64, out: &mut [u8; DIGITS]) -> usize
     ensures prefix_len { IsPrefixLen result out.new }
     ensures out_after { take result out.new ≡ decimal n }
@@ -101,17 +101,15 @@ pub fn numbers<const N: usize>(s: &[u8]) -> Option<[u64; N]>
     Some(numbers)
 }
 
-// Whether s is a number: the decimal of a u64.
+// Whether s is a number: the decimal of a u64. It stays for are_numbers.
 fn is_number(s: &[u8]) -> bool
     ensures { result ≡ fields.is_number s.now }
 {
-    match number(s) {
-        Some(_) => true,
-        None => false,
-    }
+    number(s).is_some()
 }
 
-// Whether s is a number and `more` numbers behind it, with one space between each two.
+// Whether s is a number and `more` numbers behind it, with one space between each two. It stays without a caller, since its
+// promise is of any count, known only as the program runs, and `numbers` asks for a constant one.
 pub fn are_numbers(s: &[u8], more: usize) -> bool
     ensures { result ≡ fields.are_numbers more s.now }
 {
@@ -125,7 +123,8 @@ pub fn are_numbers(s: &[u8], more: usize) -> bool
     are_numbers(behind, more - 1)
 }
 
-// The number in the field of index k, read as digits without asking whether they are.
+// The number in the field of index k, read as digits without asking whether they are. It stays without a caller, since its
+// promise is of any text, and `numbers` gives none where a field is no number.
 pub fn number_at(s: &[u8], k: usize) -> u64
     ensures { result ≡ fields.number_at k s.now }
 {

@@ -13,7 +13,7 @@ use fields::split;
 pub use fields::{are_numbers, first, number_at, numbers, rest};
 use flow::DIMS;
 use head::Cause;
-pub use lines::{FEED, LINE, front, keep};
+pub use lines::{FEED, LINE, front};
 use sender::Unit;
 
 // The longest line of the language, the line feed not counted.

@@ -15,12 +15,3 @@ pub fn front(s: &[u8], n: usize) -> &[u8]
 {
     s.get(..n).unwrap_or(s)
 }
-
-// A byte more of the line of which n bytes are kept; the answer is how many are kept then.
-pub fn keep(line: &mut [u8; LINE], n: usize, x: u8) -> usize {
-    if n < LINE {
-        line[n] = x;
-        return n + 1;
-    }
-    n
-}

@@ -11,7 +11,8 @@ use lib.Ieee.{Float, binary64}
 use Rattle.ieee.specs.Doubles.{one, whole}
 use Rattle.ieee.specs.Units.{power, units, Amount, Is}
 use Rattle.ieee.proofs.Power.{power-is}
-use Rattle.ieee.proofs.Order.{passed, le_units}
+use Rattle.std.proofs.lemmas.Float.{T_from_true}
+use Rattle.ieee.proofs.Order.{le_units}
 use Rattle.ieee.proofs.Laws.{int_is}
 use Rattle.flow.specs.declared.Bucket.{Bucket}
 use Rattle.flow.specs.declared.Use.{Use}
@@ -79,7 +80,7 @@ settled_paid RelayRate bs u cost h = absurd (apart h (λ n. omega arith))
 paid : (x cost : Float) (n : ℕ) → Amount x → units x ≤ power 1120 → n ≤ 2 ^ 40 → cost ≡ whole n → Ieee.le cost x ≡ true → Is (Ieee.sub binary64 x cost) (units x - n * power 1074)
 paid x cost n a small few e h =
     let i = int_is n (le_trans (let w : n ≤ 2 ^ 53 = omega arith in w) (le_of_eq (power-is 53))) in
-    let held : units (whole n) ≤ units x = le_units (whole n) x i.amount a (passed (sym (ap (λ (c : Float). Ieee.le c x) e) ∙ h)) in
+    let held : units (whole n) ≤ units x = le_units (whole n) x i.amount a (T_from_true _ (sym (ap (λ (c : Float). Ieee.le c x) e) ∙ h)) in
     subst (λ (c : Float). Is (Ieee.sub binary64 x c) (units x - n * power 1074)) (sym e) (sub_whole x n a small (le_trans (le_of_eq (sym i.worth)) held))
 
 module _ (bs : List Bucket) (u : Use) (now elapsed : ℕ) (cost fill level : List Float) (rank : Float) where

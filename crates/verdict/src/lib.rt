@@ -121,6 +121,7 @@ fn weighed(wants: f64, rank: f64, buckets: [Bucket; DIMS], used: Use, cost: [f64
     Ruled { rule, outcome }
 }
 
+// Eight parameters and no struct of them: its one caller makes each of them where it calls.
 #[tactic(auto, unfolding(crate::specs::Rules::ruled))]
 pub fn judged(
     buckets: [Bucket; DIMS],

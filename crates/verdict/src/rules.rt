@@ -1,5 +1,6 @@
 // The rule that decides a batch: the first that lacks, and in which dimension. Within the level credit, then tokens; over it
-// credit, tokens, then the reserve; each is asked of receptions, then of bytes.
+// credit, tokens, then the reserve; each is asked of receptions, then of bytes. Want and rank stay two parameters: the side goes by
+// the want alone, the mark by both.
 ghost use Rattle.std.specs.Prelude.{◌≡◌, ℕ, ◌<◌, Bool, not};
 ghost use Rattle.flow.specs.Flow.{dims};
 ghost use Rattle.verdict.specs.Verdict as verdicts;
@@ -88,11 +89,11 @@ fn side_of(wants: f64) -> Side
 }
 
 // Once credit and tokens hold.
-#[tactic(auto, unfolding(crate::specs::Rules::reserved, crate::specs::Rules::first))]
+#[tactic(auto, unfolding(crate::specs::Rules::reserved, crate::specs::Rules::side_of, crate::specs::Rules::first))]
 fn reserved(wants: f64, rank: f64, buckets: [Bucket; DIMS], cost: [f64; DIMS]) -> Rule
     ensures { result ≡ rules.reserved wants (verdicts.mark_of wants rank) buckets cost }
 {
-    if wants <= 1.0 {
+    if matches!(side_of(wants), Side::Within) {
         return Rule::Admitted(wants);
     }
     let mark = mark_of(wants, rank);

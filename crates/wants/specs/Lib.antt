@@ -1,2 +1,3 @@
 pub mod Bucket
+pub mod Held
 pub mod Wants

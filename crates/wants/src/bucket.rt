@@ -20,29 +20,33 @@ const LEADING: u64 = 1 << 52;
 const EVEN: u64 = 1 << 48;
 
 // For j = 0 to 15 the least double w from 1 on with w^16 ≥ 2^j, as its significand w × 2^52: 1, and the digits of its bit
-// pattern. From 16 on 2^53, which no significand reaches.
+// pattern. For 16 and 17 it is 2^53, which no significand reaches.
+static LEAST: [u64; 18] = [
+    0x10000000000000,
+    0x10b5586cf98910,
+    0x1172b83c7d517b,
+    0x12387a6e756239,
+    0x1306fe0a31b716,
+    0x13dea64c123423,
+    0x14bfdad5362a28,
+    0x15ab07dd48542a,
+    0x16a09e667f3bcd,
+    0x17a11473eb0187,
+    0x18ace5422aa0dc,
+    0x19c49182a3f091,
+    0x1ae89f995ad3ae,
+    0x1c199bdd85529d,
+    0x1d5818dcfba488,
+    0x1ea4afa2a490da,
+    0x20000000000000,
+    0x20000000000000,
+];
+
 fn least(j: u64) -> u64
+    requires { j < 18 }
     ensures { bucket.Threshold j result }
 {
-    match j {
-        0 => 0x10000000000000,
-        1 => 0x10b5586cf98910,
-        2 => 0x1172b83c7d517b,
-        3 => 0x12387a6e756239,
-        4 => 0x1306fe0a31b716,
-        5 => 0x13dea64c123423,
-        6 => 0x14bfdad5362a28,
-        7 => 0x15ab07dd48542a,
-        8 => 0x16a09e667f3bcd,
-        9 => 0x17a11473eb0187,
-        10 => 0x18ace5422aa0dc,
-        11 => 0x19c49182a3f091,
-        12 => 0x1ae89f995ad3ae,
-        13 => 0x1c199bdd85529d,
-        14 => 0x1d5818dcfba488,
-        15 => 0x1ea4afa2a490da,
-        _ => 0x20000000000000,
-    }
+    LEAST[j as usize]
 }
 
 // The part of its octave that a significand s stands in, of sixteen: the largest j with 2^j ≤ (s / 2^52)^16. It is m, m + 1

@@ -1,11 +1,13 @@
 use mathlib.Core.Path.{refl}
+use Rattle.store.specs.Causes.{index_of}
 use Rattle.cut.proofs.Noting.{noted_is}
 use Rattle.head.specs.Answers.{answer_number}
 use Rattle.cut.proofs.noted.Goals as goal
 
-pub returns : goal.returns
+pub returns-clause-counted_after : goal.returns-clause-counted_after
+returns-clause-counted_after c =
+    noted_is _ c.args.name c.args.cause c.args.cost (index_of c.args.cause) c.tallied-t.result _ _ refl c.tallied-t.ensures.counted_after
+
+pub returns-clause-answer_value : goal.returns-clause-answer_value
 unfolding answer_number
-returns c = record {
-  counted_after = noted_is _ c.args.name c.args.cause c.args.cost c.index_of.result c.tallied-t.result _ _ c.index_of.ensures.value c.tallied-t.ensures.counted_after;
-  answer_value = refl;
-}
+returns-clause-answer_value c = refl

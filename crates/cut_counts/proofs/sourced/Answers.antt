@@ -1,8 +1,8 @@
+use Rattle.store.specs.Causes.{index_of}
 use Rattle.cut_counts.proofs.Tallying.{sourced_is}
 use Rattle.cut_counts.proofs.sourced.Goals as goal
 
-pub returns : goal.returns
-returns c =
-    sourced_is c.args.room c.args.tags.now _ _ c.args.counted.now _ _ c.args.had c.count-n.result c.pruned.result
-    c.args.name c.args.cause c.requires.had_in_bounds c.count-n.ensures.counted_after c.count-n.ensures.tags_after c.pruned.ensures.counted_after
-    c.pruned.ensures.tags_after
+pub returns-clause-counted_after : goal.returns-clause-counted_after
+returns-clause-counted_after c =
+    sourced_is c.args.room c.args.lent.now.tags.now _ c.args.lent.now.counted.now _ c.args.had c.listed.result c.args.name (index_of c.args.cause) c.requires.had_in_bounds
+    c.listed.ensures.counted_after c.listed.ensures.tags_after

@@ -5,6 +5,8 @@ use lib.ListN.{length}
 use Rattle.report_lines.specs.Lines.{text}
 use Rattle.std.proofs.Common.{Ok, Err, rules}
 use Rattle.head.specs.Answers.{refusal_of}
+use Rattle.head.specs.Questions.{memory_whole}
+use Rattle.store.specs.Held.{of_sizes}
 use Rattle.head.proofs.Reading.{read_refused, read_answered}
 use Rattle.report.proofs.Asking.{counted_held, asked_head, asked_memory, asked_room, asked_none, refused, taken}
 use Rattle.report.proofs.composed.Goals as goal
@@ -14,7 +16,7 @@ unfolding refusal_of
 returns-in_err-read_asked c =
     let r = read_refused c.args.head c.read_asked.result _ c.in_err-read_asked.was c.read_asked.ensures in
     let q : c.from_residual.result ≡ Err c.in_err-read_asked.field-0.0 = search rules in
-    let w = refused c.args.head c.args.tags c.args.units c.args.uses c.args.counted.now c.args.room 3 _ _ c.args.own.now refl refl (asked_head c.args.head c.args.tags c.args.units c.args.uses c.args.counted.now c.args.room r.0) (q ∙ ap Err r.1) in
+    let w = refused c.args.head (length c.args.lent.now.tags.now) (length c.args.lent.now.units.now) (length c.args.lent.now.uses.now) c.args.lent.now.counted.now c.args.room 3 _ _ c.args.own.now refl refl (asked_head c.args.head (length c.args.lent.now.tags.now) (length c.args.lent.now.units.now) (length c.args.lent.now.uses.now) c.args.lent.now.counted.now c.args.room r.0) (q ∙ ap Err r.1) in
     record {
       value = w.0;
       prefix_len = w.1;
@@ -25,7 +27,7 @@ pub returns-then-not-memory_whole : goal.returns-then-not-memory_whole
 unfolding refusal_of
 returns-then-not-memory_whole c =
     let whole = read_answered c.args.head c.read_asked.result _ c.in_ok-read_asked.was c.read_asked.ensures in
-    let w = refused c.args.head c.args.tags c.args.units c.args.uses c.args.counted.now c.args.room 4 _ _ c.args.own.now refl refl (asked_memory c.args.head c.args.tags c.args.units c.args.uses c.args.counted.now c.args.room whole (sym c.memory_whole.ensures ∙ c.if-not-memory_whole.true)) refl in
+    let w = refused c.args.head (length c.args.lent.now.tags.now) (length c.args.lent.now.units.now) (length c.args.lent.now.uses.now) c.args.lent.now.counted.now c.args.room 4 _ _ c.args.own.now refl refl (asked_memory c.args.head (length c.args.lent.now.tags.now) (length c.args.lent.now.units.now) (length c.args.lent.now.uses.now) c.args.lent.now.counted.now c.args.room whole (sym (c.memory_whole.ensures ∙ ap (of_sizes (memory_whole c.args.head)) c.sizes.ensures) ∙ c.if-not-memory_whole.true)) refl in
     record {
       value = w.0;
       prefix_len = w.1;
@@ -35,15 +37,15 @@ returns-then-not-memory_whole c =
 pub write_text-n-requires : goal.write_text-n-requires
 write_text-n-requires c =
     counted_held _ _ _ _ _ (read_answered c.args.head c.read_asked.result _ c.in_ok-read_asked.was c.read_asked.ensures)
-    (sym c.memory_whole.ensures ∙ c.if-not-memory_whole.false)
+    (sym (c.memory_whole.ensures ∙ ap (of_sizes (memory_whole c.args.head)) c.sizes.ensures) ∙ c.if-not-memory_whole.false)
 
 pub returns-then-room-n : goal.returns-then-room-n
 unfolding refusal_of
 returns-then-room-n c =
     let whole = read_answered c.args.head c.read_asked.result _ c.in_ok-read_asked.was c.read_asked.ensures in
     let e = c.write_text-n.ensures in
-    let n : c.write_text-n.result ≡ length (text c.args.head c.args.counted.now) = e.prefix_len.1 ∙ ap length e.own_after in
-    let w = refused c.args.head c.args.tags c.args.units c.args.uses c.args.counted.now c.args.room 7 _ _ c.write_text-n.new.own refl refl (asked_room c.args.head c.args.tags c.args.units c.args.uses c.args.counted.now c.args.room whole (sym c.memory_whole.ensures ∙ c.if-not-memory_whole.false) (omega (arith, n, c.if-room-n.true))) refl in
+    let n : c.write_text-n.result ≡ length (text c.args.head c.args.lent.now.counted.now) = e.prefix_len.1 ∙ ap length e.own_after in
+    let w = refused c.args.head (length c.args.lent.now.tags.now) (length c.args.lent.now.units.now) (length c.args.lent.now.uses.now) c.args.lent.now.counted.now c.args.room 7 _ _ c.write_text-n.new.own refl refl (asked_room c.args.head (length c.args.lent.now.tags.now) (length c.args.lent.now.units.now) (length c.args.lent.now.uses.now) c.args.lent.now.counted.now c.args.room whole (sym (c.memory_whole.ensures ∙ ap (of_sizes (memory_whole c.args.head)) c.sizes.ensures) ∙ c.if-not-memory_whole.false) (omega (arith, n, c.if-room-n.true))) refl in
     record {
       value = w.0;
       prefix_len = w.1;
@@ -54,8 +56,8 @@ pub returns : goal.returns
 returns c =
     let whole = read_answered c.args.head c.read_asked.result _ c.in_ok-read_asked.was c.read_asked.ensures in
     let e = c.write_text-n.ensures in
-    let n : c.write_text-n.result ≡ length (text c.args.head c.args.counted.now) = e.prefix_len.1 ∙ ap length e.own_after in
-    let w = taken c.args.head c.args.tags c.args.units c.args.uses c.args.counted.now c.args.room (asked_none c.args.head c.args.tags c.args.units c.args.uses c.args.counted.now c.args.room whole (sym c.memory_whole.ensures ∙ c.if-not-memory_whole.false) (omega (arith, n, c.if-room-n.false))) in
+    let n : c.write_text-n.result ≡ length (text c.args.head c.args.lent.now.counted.now) = e.prefix_len.1 ∙ ap length e.own_after in
+    let w = taken c.args.head (length c.args.lent.now.tags.now) (length c.args.lent.now.units.now) (length c.args.lent.now.uses.now) c.args.lent.now.counted.now c.args.room (asked_none c.args.head (length c.args.lent.now.tags.now) (length c.args.lent.now.units.now) (length c.args.lent.now.uses.now) c.args.lent.now.counted.now c.args.room whole (sym (c.memory_whole.ensures ∙ ap (of_sizes (memory_whole c.args.head)) c.sizes.ensures) ∙ c.if-not-memory_whole.false) (omega (arith, n, c.if-room-n.false))) in
     record {
       value = ap Ok n ∙ w.0;
       prefix_len = e.prefix_len;

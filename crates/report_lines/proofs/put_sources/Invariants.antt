@@ -3,12 +3,13 @@ use Rattle.report_lines.specs.Lines.{source_lines}
 use Rattle.report_ranking.specs.Sources.{SOURCES_REPORTED, named, reported}
 use Rattle.text.specs.Page.{writes}
 use Rattle.text.specs.Pages.{seen}
-use Prim.Native.Nat.{◌≤◌, ◌-◌}
+use Prim.Native.Nat.{◌<◌, ◌-◌}
 use mathlib.Core.Path.{◌≡◌}
+use Rattle.std.specs.Option.{IfSome, unwrap_or}
 use Rattle.report_lines.proofs.put_sources.Given as goal
 
 abbrev pub invariant-loop : goal.invariant-loop
 invariant-loop l =
-    (l.last ≤ l.n)
+    IfSome l.last (λ q. q < l.n)
     × (l.out.out.ghost_name ≡ l.initial.out.out.ghost_name)
-    × (writes (seen l.initial.out) (source_lines l.counted (reported l.counted l.n)) ≡ writes (seen l.out) (source_lines l.counted (named l.counted l.n (SOURCES_REPORTED - l.counter) l.last)))
+    × (writes (seen l.initial.out) (source_lines l.counted (reported l.counted l.n)) ≡ writes (seen l.out) (source_lines l.counted (named l.counted l.n (SOURCES_REPORTED - l.counter) (unwrap_or l.last l.n))))

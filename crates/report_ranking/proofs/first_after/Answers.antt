@@ -7,6 +7,9 @@ use native.Mathlib.Numerals.{add-one}
 use mathlib.Core.List.{List}
 use borrow.Author.Rules.{rules}
 use mathlib.Core.Path.{◌≡◌, refl, sym, ap, ◌∙◌}
+use Rattle.std.specs.Option.{unwrap_or}
+use Rattle.store.specs.Found.{found}
+use Rattle.report_ranking.proofs.Choosing.{found_again}
 use Rattle.report_ranking.proofs.first_after.Goals as goal
 
 first-none : (rows : List (List ℕ)) (n p : ℕ) → first_after rows n p 0 ≡ n
@@ -24,9 +27,12 @@ pub loop-i-preserved : goal.loop-i-preserved
 loop-i-preserved c = (
   c.better-best.ensures.upper_bound,
   c.better-best.ensures.value
-      ∙ ap (λ (b : ℕ). better c.args.counted.now c.args.n c.args.p b c.loop-i.i)
+      ∙ ap (λ (b : ℕ). better c.args.counted.now c.args.n (unwrap_or c.args.p c.args.n) b c.loop-i.i)
       c.loop-i.invariant.1 ∙ sym (first_next _ _ _ _),
 )
 
 pub returns-clause-value : goal.returns-clause-value
-returns-clause-value c = let e : c.loop-i.i ≡ c.args.n = omega arith in c.loop-i.invariant.1 ∙ ap (first_after c.args.counted.now c.args.n c.args.p) e
+returns-clause-value c =
+    let e : c.loop-i.i ≡ c.args.n = omega arith in
+    found_again c.args.n c.loop-i.best c.loop-i.invariant.0
+    ∙ ap (found c.args.n) (c.loop-i.invariant.1 ∙ ap (first_after c.args.counted.now c.args.n (unwrap_or c.args.p c.args.n)) e)

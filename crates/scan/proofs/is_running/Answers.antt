@@ -17,7 +17,8 @@ pub returns : goal.returns
 unfolding begun opened
 returns c = record {
   value = ap (λ (h : Shedder). leb 1 h.scan.remaining) (sym c.open.ensures);
-  sums_after = simp (lt-leb 1 c.args.h.now.scan.remaining (omega arith), le-ltb _ _ c.if-clock-h.false, c.open.ensures) (ap (started _) c.clear.ensures);
+  sums_after = simp (lt-leb 1 c.args.h.now.scan.remaining (omega arith), le-ltb _ _ c.if-clock-h.false, c.open.ensures) (ap (started _) c.clear.ensures.wants_after);
+  arrays = c.clear.ensures.arrays;
   tracked_value = ap (λ (h : Shedder). h.tracked) c.open.ensures;
   next_bound_2 = le_by (ap (λ (h : Shedder). h.scan.remaining + h.scan.next) c.open.ensures) (omega arith);
 }

@@ -5,4 +5,4 @@ use Rattle.store_search.proofs.next_tagged.Goals as goal
 
 pub returns-clause-none : goal.returns-clause-none
 unfolding has_tag
-returns-clause-none c = λ k h l. let e = c.next.ensures.none k h l in search rules
+returns-clause-none c = λ k h l. let e = c.next.ensures.passed.none k h l in search rules

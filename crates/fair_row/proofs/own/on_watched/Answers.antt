@@ -1,10 +1,13 @@
 use Rattle.fair_row.proofs.Watched.{told_own, told_shared}
+use borrow.Author.Rules.{rules}
 use mathlib.Core.Path.{◌≡◌, sym, ◌∙◌}
-use Rattle.sender.specs.Sender.{is_overflow}
+use Rattle.sender.specs.Sender.{Tells, is_overflow}
 use Rattle.fair_row.proofs.own.on_watched.Goals as goal
 
 pub returns-then-uses_own : goal.returns-then-uses_own
-returns-then-uses_own c = told_own _ _ _ _ _ _ _ (sym c.uses_own.ensures ∙ c.if-uses_own.true) c.same_unit.ensures
+returns-then-uses_own c =
+    let same : Tells c.eq.result (c.args.watched ≡ c.args.unit) = search rules in
+    told_own _ _ _ _ _ _ _ (sym c.uses_own.ensures ∙ c.if-uses_own.true) same
 
 pub returns : goal.returns
 returns c =
