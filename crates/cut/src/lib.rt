@@ -43,11 +43,11 @@ fn flowed_back(f: Flow, cost: [f64; DIMS]) -> Flow
 {
     let buckets = flow::returned_all(f.buckets, cost);
     let admitted = lowered(f.admitted, cost);
-    // Field by field: of a struct update with arrays the check makes no proof here.
-    let mut flow = f;
-    flow.buckets = buckets;
-    flow.admitted = admitted;
-    flow
+    Flow {
+        buckets,
+        admitted,
+        ..f
+    }
 }
 
 // All of a batch is handed back.

@@ -80,12 +80,12 @@ fn flowed(f: Flow, o: Outcome, cost: [f64; DIMS], clock: u64) -> Flow
 {
     let buckets = o.buckets;
     let admitted = admitted_then(o.verdict, f.admitted, cost);
-    // Field by field: of a struct update with arrays the check makes no proof here.
-    let mut flow = f;
-    flow.buckets = buckets;
-    flow.at_ms = clock;
-    flow.admitted = admitted;
-    flow
+    Flow {
+        buckets,
+        at_ms: clock,
+        admitted,
+        ..f
+    }
 }
 
 // A verdict, its rule, and the head after it.
