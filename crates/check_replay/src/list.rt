@@ -133,6 +133,7 @@ impl List {
 pub fn run_all(rt: &impl Print, alloc: Global, reader: &mut impl BufRead) -> io::Result<()> {
     let mut list = List::new(alloc);
     let mut kept = Vec::new(alloc);
+    // Nothing says that an input ends, so the lines are counted up to a number that no run reaches.
     for _ in 0..u64::MAX {
         let Some(line) = whole_line(reader, &mut kept)? else {
             break;

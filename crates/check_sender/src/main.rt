@@ -42,7 +42,7 @@ struct Listed {
     hash: u64,
 }
 
-// A hexadecimal number in lower case.
+// A hexadecimal number in lower case: std's reading takes capital letters and a sign too.
 fn number(digits: &str) -> Option<u64> {
     if !digits
         .bytes()
@@ -92,6 +92,7 @@ fn agrees(line: &[u8]) -> bool {
 fn read_list(alloc: Global, reader: &mut impl BufRead) -> io::Result<Tally> {
     let mut tally = Tally::new();
     let mut kept = Vec::new(alloc);
+    // Nothing says that an input ends, so the lines are counted up to a number that no run reaches.
     for _ in 0..u64::MAX {
         let Some(line) = check_lines::whole_line(reader, &mut kept)? else {
             break;

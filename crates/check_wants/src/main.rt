@@ -53,6 +53,7 @@ const INFINITE: u64 = 0x7ff << 52;
 
 const NAN: u64 = 0xfff << 51;
 
+// `from_bits` asks for bits of no not-a-number: all those are read as one.
 fn double_of(bits: u64) -> f64 {
     if bits % SIGN <= INFINITE {
         return f64::from_bits(bits);
@@ -169,6 +170,7 @@ impl Replay {
 fn replayed(alloc: Global, reader: &mut impl BufRead) -> io::Result<Replay> {
     let mut replay = Replay::new();
     let mut kept = Vec::new(alloc);
+    // Nothing says that an input ends, so the lines are counted up to a number that no run reaches.
     for _ in 0..u64::MAX {
         let Some(line) = check_lines::whole_line(reader, &mut kept)? else {
             break;

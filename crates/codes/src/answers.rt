@@ -1,4 +1,4 @@
-// The number of an answer: the refusal's, 0 where the call was not refused.
+// The number of an answer: the refusal's, 0 where the call was not refused. C reads it, so it is a number and no Result.
 ghost use Rattle.std.specs.Prelude.{◌≡◌};
 ghost use Rattle.head.specs.Answers as answers;
 

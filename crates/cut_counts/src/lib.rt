@@ -15,7 +15,7 @@ use sender::Name;
 use store::{Cause, Lent, SourceRow};
 use verdict::Verdict;
 
-// The cause of a cut; an admission has none.
+// The cause of a cut; an admission has none. No TryFrom: an admission is no failure.
 #[tactic(auto, unfolding(crate::specs::Counting::cause_of, verdict::specs::Verdict::is_admitted, store::specs::Causes::index_of))]
 fn cause_of(verdict: Verdict) -> Option<Cause>
     ensures { MatchOption result (is_admitted verdict ≡ true)

@@ -85,14 +85,14 @@ module _ {F A : Type 0} (g : Shared F (ℕ × Unit {0}) A) (laws : MutLaws g) (s
       go later (yes e) = subst (λ (k : ℕ). g.post f (k, tt) (get_or ys k x)) (sym e) (subst (λ (y : A). g.post f (i, tt) y) (sym (r.2.1 x)) ((laws.post_iff f (i, tt) r.1).1 (r.0, r.3)))
       go later (no e) = subst (λ (q : F). g.post q (d, tt) (get_or ys d x)) (stays.step_stays f (i, tt) r.1 r.0 r.3) (later (omega arith))
 
-  pub made_upto : (f : F) (ys xs : List A) (h : ℕ → A) → IsFromFnResult g f ys dims → ((d : ℕ) (x : A) → d < dims → g.post f (d, tt) x → x ≡ h d) → length xs ≡ dims → ys ≡ upto h dims xs
-  made_upto f ys xs h r is long =
-      same_lists ys (upto h dims xs) (r.long ∙ sym (upto_length h dims xs ∙ long))
-      (λ d x l. is d (get_or ys d x) (omega (arith, r.long)) (called_at ys dims 0 f r.each d x (omega arith) (omega (arith, r.long))) ∙ sym (upto_at x h dims xs d (omega (arith, r.long)) (omega (arith, long))))
+  pub made_upto : (n : ℕ) (f : F) (ys xs : List A) (h : ℕ → A) → IsFromFnResult g f ys n → ((d : ℕ) (x : A) → d < n → g.post f (d, tt) x → x ≡ h d) → length xs ≡ n → ys ≡ upto h n xs
+  made_upto n f ys xs h r is long =
+      same_lists ys (upto h n xs) (r.long ∙ sym (upto_length h n xs ∙ long))
+      (λ d x l. is d (get_or ys d x) (omega (arith, r.long)) (called_at ys n 0 f r.each d x (omega arith) (omega (arith, r.long))) ∙ sym (upto_at x h n xs d (omega (arith, r.long)) (omega (arith, long))))
 
-  pub callable_upto : (f : F) → ((d : ℕ) → d < dims → g.pre f (d, tt)) → CallableAtEachTurn (index_steps dims) (λ p x q. (y : A) × Called g p (x, tt) y q) (λ p x. g.pre p (x, tt)) 0 f
-  callable_upto f may =
-      serves_by (λ p x q. (y : A) × Called g p (x, tt) y q) (λ xs q. q ≡ f) (λ xs q x v e c. stays.step_stays q (x, tt) c.0 v c.1 ∙ e) (index_steps dims) (λ p x. g.pre p (x, tt)) 0 f refl
+  pub callable_upto : (n : ℕ) (f : F) → ((d : ℕ) → d < n → g.pre f (d, tt)) → CallableAtEachTurn (index_steps n) (λ p x q. (y : A) × Called g p (x, tt) y q) (λ p x. g.pre p (x, tt)) 0 f
+  callable_upto n f may =
+      serves_by (λ p x q. (y : A) × Called g p (x, tt) y q) (λ xs q. q ≡ f) (λ xs q x v e c. stays.step_stays q (x, tt) c.0 v c.1 ∙ e) (index_steps n) (λ p x. g.pre p (x, tt)) 0 f refl
       (λ xs t q x u ys st e. subst (λ (p : F). g.pre p (x, tt)) (sym e) (may x (omega (arith, st))))
 
 pub all_fails : (p : ℕ → Bool) (n d : ℕ) → d < n → p d ≡ false → all p n ≡ false

@@ -76,6 +76,15 @@ pub fn per_dim<T, F: Fn(usize) -> T>(f: F) -> [T; DIMS]
     requires callable { (d : ℕ) → d < flow.dims → F.pre f d }
     ensures value { (g : ℕ → T) (xs : List T) → ((d : ℕ) (x : T) → d < flow.dims → F.post f d x → x ≡ g d) → length xs ≡ flow.dims → result ≡ flow.upto g flow.dims xs }
 {
+    per_place(f)
+}
+
+// What `f` gives of each place, as an array.
+pub fn per_place<T, F: Fn(usize) -> T, const N: usize>(f: F) -> [T; N]
+    requires fits { N * type_size T.row < 2 ^ 63 }
+    requires callable { (i : ℕ) → i < N → F.pre f i }
+    ensures value { (g : ℕ → T) (xs : List T) → ((i : ℕ) (x : T) → i < N → F.post f i x → x ≡ g i) → length xs ≡ N → result ≡ flow.upto g N xs }
+{
     std::array::from_fn(f)
 }
 
@@ -123,14 +132,14 @@ pub fn fills(level: [f64; DIMS], rate: [f64; DIMS]) -> [f64; DIMS]
     per_dim(|d| ieee::min(level[d], rate[d]))
 }
 
-// The time since `at`, none if that is not past.
+// The time since `at`, none if that is not past: the definition's word for std's method, in one place.
 pub fn since(clock: u64, at_ms: u64) -> u64
     ensures { result ≡ clock - at_ms }
 {
     clock.saturating_sub(at_ms)
 }
 
-// The later of two stamps.
+// The later of two stamps: the definition's word for std's method, in one place.
 pub fn later(a: u64, b: u64) -> u64
     ensures { result ≡ max a b }
 {
@@ -299,6 +308,7 @@ pub fn refilled_all(buckets: [Bucket; DIMS], elapsed: u64) -> [Bucket; DIMS]
     per_dim(|d| buckets[d].refilled(elapsed))
 }
 
+// One shape with the other two, which is `per_dim`; each is another method, with a definition of its own.
 pub fn spent_all(buckets: [Bucket; DIMS], cost: [f64; DIMS]) -> [Bucket; DIMS]
     ensures { result ≡ flow.spent_all buckets cost }
 {

@@ -14,7 +14,7 @@ pub struct Field {
     pub at: usize,
 }
 
-// The value of a digit of the base.
+// The value of a digit of the base. std's `char::to_digit` takes capital letters too, which no label has.
 #[tactic(auto, unfolding(crate::specs::Parse::digit))]
 fn digit(x: u8, base: u64) -> Option<u64>
     requires { base ≤ 16 }

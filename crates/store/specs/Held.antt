@@ -33,9 +33,6 @@ lent_rows l = rows l.tags.now l.units.now l.uses.now
 abbrev pub lent_sizes : Lent → Sizes
 lent_sizes l = sizes (length l.tags.now) (length l.units.now) (length l.uses.now) (length l.counted.now)
 
-abbrev pub read_rows : LentRead → Rows
-read_rows l = rows l.tags.now l.units.now l.uses.now
-
 abbrev pub read_sizes : LentRead → Sizes
 read_sizes l = sizes (length l.tags.now) (length l.units.now) (length l.uses.now) (length l.counted.now)
 

@@ -16,12 +16,9 @@ pub fn part(row: UseRow, from: usize) -> [f64; DIMS]
 }
 
 // Both parts one after the other.
+#[tactic(auto, unfolding(crate::specs::Store::joined, crate::specs::Store::picked))]
 pub fn joined(a: [f64; DIMS], b: [f64; DIMS]) -> UseRow
     ensures { result ≡ store.joined a b }
 {
-    let mut out = [0.0; 2 * DIMS];
-    for i in 0..2 * DIMS {
-        out[i] = if i < DIMS { a[i] } else { b[i - DIMS] };
-    }
-    out
+    flow::per_place(|i| if i < DIMS { a[i] } else { b[i - DIMS] })
 }

@@ -21,7 +21,7 @@ use sender::{Unit, Words};
 use store::{Lent, LentRead, SourceRow, UnitRow, UseRow};
 use wants::{Counts, Histogram, Sums};
 
-// A call's answer as a number (crate codes), and the head after it.
+// A call's answer as a number (crate codes), and the head after it. C has no Result: a number tells the answer here and in each call.
 #[repr(C)]
 #[derive(Clone, Copy)]
 pub struct Answered {

@@ -54,6 +54,7 @@ fn first_lacking<F: Fn(usize) -> bool>(lacks: F) -> Option<usize>
     (0..DIMS).position(lacks)
 }
 
+// Three questions, each a line: their common part is `first_lacking`, and each has a definition of its own.
 #[tactic(auto, unfolding(crate::specs::Rules::credit_lacks))]
 fn credit_lacks(credit: [f64; DIMS], cost: [f64; DIMS]) -> Option<usize>
     ensures { result ≡ rules.first (rules.credit_lacks credit cost) }
@@ -77,6 +78,7 @@ fn reserve_lacks(buckets: [Bucket; DIMS], cost: [f64; DIMS], mark: f64) -> Optio
 
 // ---- the rule
 
+// The definition's word for the side. It compares doubles by 1.0, so no conversion has it as its meaning.
 #[tactic(auto, unfolding(crate::specs::Rules::side_of))]
 fn side_of(wants: f64) -> Side
     ensures { result ≡ rules.side_of wants }
