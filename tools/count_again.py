@@ -9,7 +9,7 @@ import re
 import sys
 
 TOKEN = re.compile(r"//[^\n]*|b?\"(?:\\.|[^\"\\])*\"|b?'(?:\\.|[^'\\])'|'\w+|\w+|◌|[^\s\w]")
-FUNCTION = re.compile(r"\bfn\s+(\w+)\s*(?:<.*?>)?\((.*?)\)\s*(?:->\s*([^{;\n]+))?", re.S)
+FUNCTION = re.compile(r"\bfn\s+(\w+)\s*(?:<.*?>)?\((.*?)\)\s*(?:->\s*((?:\[[^\]]*\]|[^{;\n])+))?", re.S)
 
 
 def tokens(text):

@@ -7,14 +7,10 @@ ghost use Rattle.std.specs.Io.BufRead.{take_through, ends_with_byte, DropsThroug
 use std::io::{self, BufRead};
 
 // The bytes in front of a line end, where the last is one.
-#[tactic(auto, using(crate::proofs::Ends::empty_ends_not, crate::proofs::Ends::other_last_ends_not))]
 fn without_end(bytes: &[u8]) -> Option<&[u8]>
     ensures { MatchOption result (ends_with_byte 10 bytes.now ≡ false) (λ line. bytes.now ≡ line.now ++ 10 ∷ []) }
 {
-    match bytes.split_last() {
-        Some((b'\n', line)) => Some(line),
-        _ => None,
-    }
+    bytes.strip_suffix(b"\n")
 }
 
 // The next line that has a line end, without it, read over what `kept` holds; None where no line end follows.

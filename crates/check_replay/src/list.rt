@@ -133,7 +133,9 @@ impl List {
 pub fn run_all(rt: &impl Print, alloc: Global, reader: &mut impl BufRead) -> io::Result<()> {
     let mut list = List::new(alloc);
     let mut kept = Vec::new(alloc);
-    // Nothing says that an input ends, so the lines are counted up to a number that no run reaches.
+    // A loop must end, and nothing says that an input does: so the lines are counted up to a number that no run reaches. std's
+    // `forever` would need a handle to wait, which this program does not take. Each of the three programs that read lists has
+    // this loop: a function over what is done with a line would ask that it may be called again after each call.
     for _ in 0..u64::MAX {
         let Some(line) = whole_line(reader, &mut kept)? else {
             break;

@@ -26,7 +26,8 @@ fn say(rt: &impl Print, r: &Replayed) -> io::Result<()> {
     })
 }
 
-// What the reports have written of the page: a page begins as zeros, and no report has one.
+// What the reports have written of the page: a page begins as zeros, and no report has one. std's `split` answers an iterator of
+// parts, of which this is the first.
 fn written(page: &[u8]) -> &[u8] {
     match page.iter().position(|byte| *byte == 0) {
         Some(n) => front(page, n),
@@ -59,6 +60,7 @@ pub fn run(
 ) -> io::Result<()> {
     let mut m = Memory::<TAGS, UNITS, COUNTED>::zeroed();
     let mut page = [0; REPORT];
+    // Made here and in shedtrial: a method of `Memory` could not promise what the rows hold once they come back.
     let mut lent = Lent {
         tags: &mut m.tags,
         units: &mut m.units,

@@ -31,7 +31,7 @@ pub const OUT: usize = 4096;
 // The shedder's memory.
 pub type Memory = trial_memory::Memory<TAGS, UNITS, COUNTED>;
 
-// Memory of which no word is 0.
+// Memory of which no word is 0: as `zeroed` of trial_memory, but each array has a filling of its own.
 pub fn filled() -> Memory {
     Memory {
         tags: [0x0101; TAGS],

@@ -81,6 +81,7 @@ fn pruned(rt: &impl Print, totals: [u64; 5]) -> io::Result<()> {
     };
     let n = sources.pruned(5);
     print!(rt; "totals {a}, {b}, {c}, {d}, {e}, {n} stay:")?;
+    // By place: `total_at` takes it.
     for i in 0..n {
         print!(rt; " {}", cut_sources::total_at(&counted, i))?;
     }

@@ -5,10 +5,7 @@ use flow::Dim;
 use head::{Cause, Refusal, Shedder};
 
 fn read<A: Drop>(value: Result<A, Refusal>) -> Answer {
-    match value {
-        Ok(_) => Ok(None),
-        Err(refusal) => Err(refusal),
-    }
+    value.map(|_| None)
 }
 
 pub fn reading(which: Read, head: Shedder) -> Answer {

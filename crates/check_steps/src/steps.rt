@@ -35,7 +35,7 @@ pub enum Call {
     },
 }
 
-// The part of the head that is made unfit, if any.
+// The part of the head that is made unfit. Fit is one of them and no None: the list of steps writes each by its name.
 #[derive(Clone, Copy, PartialEq)]
 pub enum Fault {
     Fit,
@@ -65,7 +65,7 @@ pub struct Lengths {
     pub out: usize,
 }
 
-// What is written of a step.
+// What is written of a step. Nothing is one of them and no None: the list of steps writes each by its name.
 #[derive(Clone, Copy)]
 pub enum Says {
     Nothing,
@@ -192,6 +192,7 @@ impl Step {
         }
     }
 
+    // Shapes of `new` for two calls: what differs is what each line of the list says.
     fn start(rate: u64) -> Step {
         Step::new(Call::Start, [rate; DIMS], 2000)
     }

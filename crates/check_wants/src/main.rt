@@ -61,7 +61,7 @@ fn double_of(bits: u64) -> f64 {
     f64::NAN
 }
 
-// As in check_steps, which this program does not use: it is another program's list of steps.
+// As in check_steps, which is another program's: a crate for two lines would be no plainer.
 fn bits_of(x: f64) -> u64 {
     if x.is_nan() { NAN } else { x.to_bits() }
 }
@@ -170,7 +170,9 @@ impl Replay {
 fn replayed(alloc: Global, reader: &mut impl BufRead) -> io::Result<Replay> {
     let mut replay = Replay::new();
     let mut kept = Vec::new(alloc);
-    // Nothing says that an input ends, so the lines are counted up to a number that no run reaches.
+    // A loop must end, and nothing says that an input does: so the lines are counted up to a number that no run reaches. std's
+    // `forever` would need a handle to wait, which this program does not take. Each of the three programs that read lists has
+    // this loop: a function over what is done with a line would ask that it may be called again after each call.
     for _ in 0..u64::MAX {
         let Some(line) = check_lines::whole_line(reader, &mut kept)? else {
             break;

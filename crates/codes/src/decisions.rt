@@ -1,4 +1,5 @@
 // A judgement's answer and its rule as numbers: the refusal, the verdict, the rule and the dimension each in a field of its own.
+// Matches and no casts: the numbers are C's, and stay where a variant moves.
 ghost use Rattle.std.specs.Prelude.{◌≡◌};
 ghost use Rattle.codes.specs.Decisions as decisions;
 

@@ -1,4 +1,4 @@
-// A cause and a dimension by number, in document 01's order. Any number may come from C, and none is refused: so no `TryFrom`.
+// A cause and a dimension by number, in their order. Any number may come from C, and none is refused: so no `TryFrom`.
 ghost use Rattle.std.specs.Prelude.{◌≡◌};
 ghost use Rattle.codes.specs.Numbers as numbers;
 
@@ -9,21 +9,20 @@ use head::Cause;
 pub fn cause_of(n: u64) -> Cause
     ensures { result ≡ numbers.cause_of n }
 {
-    if n == 0 {
-        return Cause::ReceiverCeiling;
+    match n {
+        0 => Cause::ReceiverCeiling,
+        1 => Cause::OverShare,
+        _ => Cause::RelayRate,
     }
-    if n == 1 {
-        return Cause::OverShare;
-    }
-    Cause::RelayRate
 }
 
+// Apart from `flow::dim_at`, whose number is a place: what any other number of C's means is said here.
 #[tactic(auto, unfolding(crate::specs::Numbers::dim_of, flow::specs::Flow::dim_at))]
 pub fn dim_of(n: u64) -> Dim
     ensures { result ≡ numbers.dim_of n }
 {
-    if n == 0 {
-        return Dim::Receptions;
+    match n {
+        0 => Dim::Receptions,
+        _ => Dim::Bytes,
     }
-    Dim::Bytes
 }

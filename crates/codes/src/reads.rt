@@ -1,4 +1,4 @@
-// What was read as a refusal's number and a value.
+// What was read as a refusal's number and a value. A function for each kind of value, since each becomes C's number in its own way.
 ghost use Rattle.std.specs.Prelude.{◌≡◌};
 ghost use Rattle.codes.specs.Numbers as numbers;
 

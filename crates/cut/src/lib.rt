@@ -14,7 +14,7 @@ use head::{Cause, Flow, Refusal, Shedder};
 use sender::{Name, Named, Unit};
 use store::{Lent, Records};
 
-// What a cut answers, and the head after it.
+// What a cut answers, and the head after it. As head's `Starting`: each definition speaks of its own call's answer by name.
 #[derive(Clone, Copy)]
 pub struct Cutting {
     pub answer: Result<(), Refusal>,
@@ -116,6 +116,7 @@ pub fn cut(
     }
     let named = Named::of(unit);
     if hands_back(head.flow.rate, cause) {
+        // Made here: a method of `Lent` could not promise what the rows hold once they come back.
         let mut records = Records {
             tags: &mut *lent.tags,
             units: &mut *lent.units,

@@ -141,6 +141,7 @@ impl Sources<'_> {
         ensures slices { SameSources self.old self.new }
     {
         let mut j = 0;
+        // Not std's `retain`, which is a Vec's: the lent memory is fixed.
         for i in 0..n {
             j = self.prune_one(i, j, k);
         }

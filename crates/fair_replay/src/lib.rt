@@ -35,7 +35,7 @@ pub struct Replayed {
     pub over_share: bool,
 }
 
-// Whether a call is one of the run: its place is, and it was not refused by number.
+// Whether a call is one of the run: its place is, and it was not refused by number, which is 0 then, as the definition has it.
 #[tactic(auto, unfolding(fair_row::specs::Replay::counts))]
 fn counts(inside: bool, number: u64) -> bool
     ensures { result ≡ replay.counts inside number }
@@ -89,6 +89,7 @@ pub fn replay(
         over_share: false,
     };
     let end = to.min(list.len());
+    // By place: the run is told by places of the list.
     for i in 0..end {
         let turned = fair_row::turn(run.head, lent, histogram, watched, list[i], out);
         run = after(run, turned, from <= i);

@@ -52,6 +52,7 @@ pub enum Call {
     Read(Reading),
 }
 
+// Three questions, each the definition's word for one variant: `matches!` takes a pattern, so no one function asks them all.
 #[tactic(auto, unfolding(crate::specs::Replay::is_admitted))]
 fn is_admitted(answer: Result<Verdict, Refusal>) -> bool
     ensures { result ≡ replay.is_admitted answer }

@@ -1,4 +1,4 @@
--- A loop over the dimensions, one part a turn. Assumes nothing.
+-- A loop over the dimensions, one part a turn; an array made place by place. Assumes nothing.
 use Rattle.std.proofs.Common.{◌≡◌, ℕ, zero, suc, ◌+◌, ◌<◌, ◌≤◌, Bool, true, List, length, get_or, set, sym, refl, ap, subst, ◌∙◌, add-one, arith, length-set, get_or-set_other, get_or-set_same}
 use native.Mathlib.Decide.{ℕ_discrete}
 use lib.Ieee.{Float, nan}

@@ -116,7 +116,7 @@ pub fn per_second(rate: u64) -> f64
     }
 }
 
-// Rates or costs as doubles.
+// Rates or costs as doubles: `whole` of each, which an array's `From` does not take.
 #[tactic(auto, unfolding(crate::specs::Flow::numbers))]
 pub fn numbers(xs: [u64; DIMS]) -> [f64; DIMS]
     ensures { result ≡ flow.numbers xs }
@@ -132,14 +132,14 @@ pub fn fills(level: [f64; DIMS], rate: [f64; DIMS]) -> [f64; DIMS]
     per_dim(|d| ieee::min(level[d], rate[d]))
 }
 
-// The time since `at`, none if that is not past: the definition's word for std's method, in one place.
+// The time since `at`, none if that is not past: std's method under the name that its callers read, and no plainer without.
 pub fn since(clock: u64, at_ms: u64) -> u64
     ensures { result ≡ clock - at_ms }
 {
     clock.saturating_sub(at_ms)
 }
 
-// The later of two stamps: the definition's word for std's method, in one place.
+// The later of two stamps: std's method under the name that its callers read, and no plainer without.
 pub fn later(a: u64, b: u64) -> u64
     ensures { result ≡ max a b }
 {
@@ -148,7 +148,7 @@ pub fn later(a: u64, b: u64) -> u64
 
 // ---- the bucket
 
-// The part of a ceiling that a burst holds.
+// The part of a ceiling that a burst holds: std's method at the definition's bound, under the name that is read there.
 fn held(ceiling: u64) -> u64
     ensures { result ≡ min ceiling flow.RATE_MOST }
 {

@@ -153,6 +153,7 @@ fn bounded(
     ensures arrays { SameArrays histogram.old histogram.new }
 {
     let clock = flow::later(stamp, head.flow.at_ms);
+    // Made here and again below: a method of `Lent` could not promise what the rows hold once they come back.
     let mut records = Records {
         tags: &mut *lent.tags,
         units: &mut *lent.units,

@@ -47,6 +47,7 @@ fn put_line(out: &mut Page<'_>, word: &[u8], xs: &[u64])
     put_numbers(out, xs);
 }
 
+// A flag beside the numbers, as in the head: an unbounded relay has numbers too, of which none is printed.
 #[tactic(auto, unfolding(crate::specs::Lines::rates_line, text::specs::Page::writes))]
 fn put_rates(out: &mut Page<'_>, word: &[u8], unbounded: bool, xs: &[u64])
     ensures same_reference { out.new.out.ghost_name ≡ out.old.out.ghost_name }

@@ -87,10 +87,7 @@ fn is_after(counted: &[SourceRow], n: usize, p: Option<usize>, i: usize) -> bool
     requires i_lt_n { i < n }
     ensures { result ≡ sources.is_after counted.now n (unwrap_or p n) i }
 {
-    match p {
-        None => true,
-        Some(q) => precedes(counted, q, i),
-    }
+    p.is_none_or(|q| precedes(counted, q, i))
 }
 
 // The earlier of source i, where it stands after p, and the best so far. Few precede the best, and only those are
@@ -110,11 +107,7 @@ fn better(
     ensures value { unwrap_or result n ≡ sources.better counted.now n (unwrap_or p n) (unwrap_or best n) i }
     ensures upper_bound { IfSome result (λ b. b < n) }
 {
-    let is_earlier = match best {
-        None => true,
-        Some(b) => precedes(counted, i, b),
-    };
-    if is_earlier && is_after(counted, n, p, i) {
+    if best.is_none_or(|b| precedes(counted, i, b)) && is_after(counted, n, p, i) {
         Some(i)
     } else {
         best
@@ -129,6 +122,7 @@ pub fn first_after(counted: &[SourceRow], n: usize, p: Option<usize>) -> Option<
     ensures upper_bound { IfSome result (λ i. i < n) }
 {
     let mut best = None;
+    // By place: a source is named by it.
     for i in 0..n {
         best = better(counted, n, p, best, i);
     }

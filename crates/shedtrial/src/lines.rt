@@ -115,7 +115,8 @@ impl<'a> Session<'a> {
     }
 }
 
-// Nothing says that an input ends, so the reads are counted up to a number that no run reaches.
+// A loop must end, and nothing says that an input does: so the reads are counted up to a number that no run reaches. std's
+// `forever` would need a handle to wait, which the program does not take.
 fn serve_all(rt: &impl Print, reader: &mut impl Read) -> Result<(), Stop> {
     let mut line = [0; LINE];
     let mut page = [0; BLOCK];

@@ -90,6 +90,7 @@ pub fn retain(records: &mut Records<'_>, from: usize, n: usize, table: usize, at
     ensures slices { SameSlices records.old records.new }
 {
     let mut j = from;
+    // Not std's `retain`, which is a Vec's: the lent memory is fixed.
     for i in from..n {
         j = retain_one(records, i, j, table, at_ms);
     }

@@ -16,7 +16,8 @@ const FAR: usize = 32;
 
 const NEAR: usize = 16;
 
-// Whether one of the STEP tags from i on passes. No jump depends on a test, so the compiler makes eight of them at once.
+// Whether one of the STEP tags from i on passes. No jump depends on a test, so the compiler makes eight of them at once; std's
+// `any` jumps.
 fn any_passes<const STEP: usize, F: Fn(u16) -> bool>(tags: &[u16], i: usize, passes: F) -> bool
     requires i_in_bounds { i + STEP ≤ length tags.now }
     requires callable { F.IsAlwaysCallable passes }
@@ -51,7 +52,8 @@ fn skip<const STEP: usize, F: Fn(u16) -> bool>(
     i
 }
 
-// The first place from `from` on whose tag passes, else n.
+// The first place from `from` on whose tag passes, else n. By place: the answer is one of the whole slice, where `position` would
+// count from the part that is left.
 fn next<const STEP: usize, F: Fn(u16) -> bool>(
     tags: &[u16],
     from: usize,

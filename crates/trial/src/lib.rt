@@ -30,7 +30,7 @@ pub const REPORT: usize = 4096;
 // The number of a line that has no form, or stands before any start that was taken.
 const NO_FORM: u64 = 8;
 
-// The shedder and whether it was started.
+// The shedder and whether it was started. No Option: each call is given the head and leaves it, and the definition's state has both.
 #[derive(Clone, Copy)]
 pub struct Trial {
     pub head: Shedder,

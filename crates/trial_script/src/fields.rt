@@ -43,7 +43,8 @@ pub fn rest(s: &[u8]) -> &[u8]
     split(s).1
 }
 
-// A number and one digit more; the number itself where it would not fit.
+// A number and one digit more; the number itself where it would not fit. Numbers are read so, and compared with their decimals,
+// since std's `parse` takes a sign and zeros in front.
 #[tactic(auto, unfolding(crate::specs::Fields::grown))]
 fn grown(n: u64, x: u8) -> u64
     ensures { result ≡ fields.grown n x }
@@ -83,7 +84,8 @@ fn number(s: &[u8]) -> Option<u64>
     (&own[..k] == s).then_some(n)
 }
 
-// The N numbers that s is, with one space between each two.
+// The N numbers that s is, with one space between each two. Its array is filled by place, since each turn goes on with the text
+// that the one before left.
 pub fn numbers<const N: usize>(s: &[u8]) -> Option<[u64; N]>
     requires { 0 < N }
     ensures { MatchOption result (fields.are_numbers (N - 1) s.now ≡ false)

@@ -65,6 +65,7 @@ pub fn want(weight: f64, attempted: [f64; DIMS], cost: [f64; DIMS], level: [f64;
     ensures { result ≡ verdicts.want weight attempted cost level }
 {
     let mut times = 0.0;
+    // By place: three arrays stand side by side.
     for d in 0..DIMS {
         times = ieee::max(times, want_of(weight, attempted[d], cost[d], level[d]));
     }

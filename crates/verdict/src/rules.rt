@@ -78,7 +78,7 @@ fn reserve_lacks(buckets: [Bucket; DIMS], cost: [f64; DIMS], mark: f64) -> Optio
 
 // ---- the rule
 
-// The definition's word for the side. It compares doubles by 1.0, so no conversion has it as its meaning.
+// 1.0 is the rule's bound and no reading of the double, so this is no `From`.
 #[tactic(auto, unfolding(crate::specs::Rules::side_of))]
 fn side_of(wants: f64) -> Side
     ensures { result ≡ rules.side_of wants }

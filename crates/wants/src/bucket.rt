@@ -42,7 +42,7 @@ static LEAST: [u64; 18] = [
     0x20000000000000,
 ];
 
-// One read for both comparisons, so that what an entry means is proved once.
+// One function reads for both comparisons, so that what an entry means is proved once.
 fn least(j: u64) -> u64
     requires { j < 18 }
     ensures { bucket.Threshold j result }

@@ -50,7 +50,8 @@ impl Histogram<'_> {
     }
 
     // The number of units counted in a dimension. The definition sums doubles from the lowest bucket up. Each of those sums is
-    // a whole number below 2^53, so none is rounded, and the whole numbers summed first come to the same double.
+    // a whole number below 2^53, so none is rounded, and the whole numbers summed first come to the same double. A loop: its
+    // invariant is the definition's sum up to a bucket, which std's `sum` would hide.
     fn counted(&self, dim: usize) -> f64
         requires { dim < dims }
         ensures { result ≡ wants.counted (slice_index_or self.now.counts.now dim []) bucket.«BUCKETS» }
