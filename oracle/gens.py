@@ -4,6 +4,7 @@ Style 0 has lines of no form, 1 calls that are refused by number, 3 more senders
 most, 5 and 6 many cuts, 7 few cuts, 8 stamps that go back, 9 a stamp at its end; the others are mixed. All have later starts,
 unbounded relays, reports, and stamps that jump past the limits of document 01 (500, 2,000, 8,000 and 128,000 ms).
 """
+import ipaddress
 import random
 
 MOST = 2 ** 40
@@ -19,12 +20,18 @@ CUTS = {5: .5, 6: .3, 7: .02}
 NO_FORM = [
     b'', b' ', b'J', b'J no-address 1 1', b'J no-address 1 1 1 1', b'J no-address 01 1 1', b'J  no-address 1 1 1', b' P', b'P ', b'p',
     b'R 1 1 1', b'R 1 1 1 18446744073709551616', b'R -1 1 1 1', b'R +1 1 1 1', b'R 1 1 1 1 1', b'J v4:256.0.0.0/16 1 1 1',
-    b'J v4:01.0.0.0/16 1 1 1', b'J v6:2001::/32 1 1 1', b'J v6:2001:0db8::/32 1 1 1', b'J v6:2001:DB8::/32 1 1 1', b'J key:00 1 1 1',
+    b'J v4:01.0.0.0/16 1 1 1', b'J v6:2001:0::/32 1 1 1', b'J v6:2001:0db8::/32 1 1 1', b'J v6:2001:DB8::/32 1 1 1', b'J key:00 1 1 1',
     b'J key:' + b'0' * 63 + b'G 1 1 1', b'J key:' + b'A' * 64 + b' 1 1 1', b'C no-address none 1 1', b'C no-address over-share 1',
     b'C no-address Over-share 1 1', b'J no-address 1 1 1\r', b'\xff\xfe', b'J no-address 1 1 \xff', b'x' * 200, b'x' * 201, b'x' * 5000,
     b'J no-address 18446744073709551616 0 0', b'C \xff over-share 1 1', b'C no-address \xff 1 1', b'J\tno-address 1 1 1',
     b'J no-address 1 1 1\0', b'', b'R', b'C', b'J v6:+1:1::/32 1 1 1', b'J no-address ' + b'0' * 180 + b' 1 1', b'P' + b' ' * 199,
     b'P' + b' ' * 200,
+]
+# texts of IPv6 prefixes that RFC 5952 does not write
+V6_NO_FORM = [
+    'v6:2001:0::/32', 'v6:0:0::/32', 'v6:0::/32', 'v6:::db8:0:0:0:0:0:0/32', 'v6::db8::/32', 'v6::::/32', 'v6::/32', 'v6:::0/32', 'v6:::/31',
+    'v6:::/032', 'v6:2001:DB8::/32', 'v6:2001:0db8::/32', 'v6:02001::/32', 'v6:2001:db8::1/32', 'v6:2001:db8:0:0:0:0:0:0/32',
+    'v6:2001:db8:0::/32', 'v6:12001::/32', 'v6:2001:10db8::/32', 'v6:2001:db8::', 'v6:2001:db8/32', 'v6:2001:db8::/32/32', 'V6:2001:db8::/32',
 ]
 REFUSED = [
     b'R 0 1 0 0', b'R 1 0 0 0', b'R 1099511627777 1 0 0', b'R 1 1099511627777 0 0', b'R 18446744073709551615 1 0 0',
@@ -35,13 +42,18 @@ REFUSED = [
 ]
 
 
+def v6_label(prefix):
+    return 'v6:%s/32' % ipaddress.IPv6Address(prefix << 96).compressed
+
+
 def label(r):
     kind = r.random()
     if kind < 0.4:
         return 'v4:%d.%d.0.0/16' % (r.randrange(256), r.randrange(256))
     if kind < 0.7:
         first = r.choice([0, 1, 0x2001, r.randrange(65536)])
-        return 'v6:%x:%x::/32' % (first, r.choice([0, 0xdb8, r.randrange(65536)]))
+        second = r.choice([0, 0xdb8, r.randrange(65536)])
+        return v6_label(first << 16 | second)
     return 'key:' + r.randbytes(32).hex()
 
 

@@ -5,7 +5,8 @@ use lib.Ieee.{lt, of_bits, of_int}
 use Rattle.ieee.specs.Doubles.{whole}
 use Rattle.fade.specs.Fade.{fade}
 use Rattle.fnv.specs.Fnv.{fed, feed, fnv1a}
-use Rattle.label.specs.Label.{label, v6_label}
+use Rattle.label.specs.Label.{label, v6_label, prefix_fields}
+use Rattle.label.specs.Rfc5952.{address, longest, zeros, colons, shortened}
 use Rattle.sender.specs.Sender.{bytes_of, hash_of, table_of_hash}
 use Rattle.cut_sources.specs.Sorted.{insert, sorted}
 use Rattle.cut_sources.specs.Counted.{total, totals, keep_from, above, prune, pruned}
@@ -17,7 +18,7 @@ use Rattle.check_cases.proofs.Levels.{level_filled, cut, both_kept, none_cut}
 use Rattle.check_cases.proofs.Fresh.{fade_of_0, ten, want_is_one, is_relayed}
 
 pub cases : table.Cases
-unfolding fed feed fnv1a bytes_of hash_of table_of_hash bucket_of largest reaches lt of_bits of_int insert sorted total totals keep_from above prune pruned label v6_label joined hexadecimal numeral fade
+unfolding fed feed fnv1a bytes_of hash_of table_of_hash bucket_of largest reaches lt of_bits of_int insert sorted total totals keep_from above prune pruned label v6_label prefix_fields address longest zeros colons shortened joined hexadecimal numeral fade
 cases = record {
   byte_2 = refl;
   hash_2 = refl;
@@ -35,7 +36,10 @@ cases = record {
   totals = refl;
   totals_in_another_order = refl;
   totals_equal = refl;
-  prefix = refl;
+  prefix_first = refl;
+  prefix_zero = refl;
+  prefix_second = refl;
+  prefix_both = refl;
   fade_0 = fade_of_0;
   fade_128000 = refl;
   tokens_10 = ten;

@@ -75,8 +75,11 @@ pub record Cases : Type 0 where
   pub totals : Stay (1 ∷ 1 ∷ 2 ∷ 3 ∷ 4 ∷ []) (2 ∷ 3 ∷ 4 ∷ []) 2
   pub totals_in_another_order : Stay (4 ∷ 1 ∷ 3 ∷ 2 ∷ 1 ∷ []) (4 ∷ 3 ∷ 2 ∷ []) 2
   pub totals_equal : Stay (7 ∷ 7 ∷ 7 ∷ 7 ∷ 7 ∷ []) [] 5
-  -- prefix 20010000 (hexadecimal) prints `v6:2001:0::/32`
-  pub prefix : label (Grouped (V6 0x2001_0000)) ≡ 118 ∷ 54 ∷ 58 ∷ 50 ∷ 48 ∷ 48 ∷ 49 ∷ 58 ∷ 48 ∷ 58 ∷ 58 ∷ 47 ∷ 51 ∷ 50 ∷ []
+  -- prefixes 20010000, 0, 00000db8, 20010db8 (hexadecimal) print `v6:2001::/32`, `v6:::/32`, `v6:0:db8::/32`, `v6:2001:db8::/32`
+  pub prefix_first : label (Grouped (V6 0x2001_0000)) ≡ 118 ∷ 54 ∷ 58 ∷ 50 ∷ 48 ∷ 48 ∷ 49 ∷ 58 ∷ 58 ∷ 47 ∷ 51 ∷ 50 ∷ []
+  pub prefix_zero : label (Grouped (V6 0)) ≡ 118 ∷ 54 ∷ 58 ∷ 58 ∷ 58 ∷ 47 ∷ 51 ∷ 50 ∷ []
+  pub prefix_second : label (Grouped (V6 0x0db8)) ≡ 118 ∷ 54 ∷ 58 ∷ 48 ∷ 58 ∷ 100 ∷ 98 ∷ 56 ∷ 58 ∷ 58 ∷ 47 ∷ 51 ∷ 50 ∷ []
+  pub prefix_both : label (Grouped (V6 0x2001_0db8)) ≡ 118 ∷ 54 ∷ 58 ∷ 50 ∷ 48 ∷ 48 ∷ 49 ∷ 58 ∷ 100 ∷ 98 ∷ 56 ∷ 58 ∷ 58 ∷ 47 ∷ 51 ∷ 50 ∷ []
   -- fade of 0 is 1, of 128,000 is 0
   pub fade_0 : fade 0 ≡ fin false 1 (pos 0)
   pub fade_128000 : fade 128000 ≡ fin false 0 (pos 0)

@@ -1,8 +1,9 @@
-// Compares the sender's hash with outside values: published FNV-1a vectors, and a list of units on standard input.
-// A line of the list has seven hexadecimal numbers: the unit's five words, its table, and its hash without the lowest
-// 11 bits.
+// Compares the sender's hash and label with outside values: published FNV-1a vectors, and a list of units on standard input.
+// A line of the list has seven hexadecimal numbers and a text: the unit's five words, its table, its hash without the lowest
+// 11 bits, and its label, which is read back too.
 #![tactic(auto)]
 
+use label::Label;
 use sender::{Unit, Words};
 use std::alloc::Global;
 use std::io::{self, BufRead, BufReader};
@@ -36,10 +37,11 @@ impl Tally {
 
 // A line of the list.
 #[derive(Drop)]
-struct Listed {
+struct Listed<'a> {
     words: Words,
     table: u64,
     hash: u64,
+    label: &'a [u8],
 }
 
 // A hexadecimal number in lower case: std's reading takes capital letters and a sign too.
@@ -53,9 +55,9 @@ fn number(digits: &str) -> Option<u64> {
     u64::from_str_radix(digits, 16).ok()
 }
 
-impl Listed {
+impl<'a> Listed<'a> {
     // A line of another form is no unit.
-    fn parse(line: &str) -> Option<Listed> {
+    fn parse(line: &'a str) -> Option<Listed<'a>> {
         let mut fields = line.split(' ');
         let listed = Listed {
             words: Words {
@@ -67,6 +69,7 @@ impl Listed {
             },
             table: number(fields.next()?)?,
             hash: number(fields.next()?)?,
+            label: fields.next()?.as_bytes(),
         };
         match fields.next() {
             None => Some(listed),
@@ -74,10 +77,13 @@ impl Listed {
         }
     }
 
-    // Whether the unit has the table and the hash that the line says.
+    // Whether the unit has the table, the hash and the label that the line says, and the label is read as the unit.
     fn agrees(&self) -> bool {
         let unit = Unit::from(self.words);
-        sender::table_of(unit) as u64 == self.table && sender::hash_of(unit) >> 11 == self.hash
+        sender::table_of(unit) as u64 == self.table
+            && sender::hash_of(unit) >> 11 == self.hash
+            && Label::of(unit).as_bytes() == self.label
+            && label_parse::parse(self.label) == Some(unit)
     }
 }
 

@@ -89,10 +89,13 @@ fn pruned(rt: &impl Print, totals: [u64; 5]) -> io::Result<()> {
 }
 
 fn prefix(rt: &impl Print) -> io::Result<()> {
-    let label = Label::of(Unit::Group(Group::V6(0x20010000)));
-    rt.print("prefix 20010000: ")?;
-    rt.write_all(label.as_bytes())?;
-    rt.println("")
+    for prefix in [0x2001_0000, 0, 0x0db8, 0x2001_0db8] {
+        let label = Label::of(Unit::Group(Group::V6(prefix)));
+        print!(rt; "prefix {prefix:08x}: ")?;
+        rt.write_all(label.as_bytes())?;
+        rt.println("")?;
+    }
+    Ok(())
 }
 
 // A fresh unit's want at its first judgement: rate and level 10, cost 20, in every dimension. The verdict on it is the first

@@ -1,2 +1,4 @@
--- Labels: the text is written.
+-- Addresses: those that RFC 5952 spells. Short: the label of a V6 group is its short form. Labels: the text is written.
+pub mod Addresses
+pub mod Short
 pub mod Labels

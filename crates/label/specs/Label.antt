@@ -1,7 +1,8 @@
--- The label of a unit: the bytes that `Unit::label` of the Rust prints. Definitions only.
+-- The label of a unit: the bytes that `Unit::label` of the Rust prints, but for a V6 group, whose prefix is printed by RFC 5952. Definitions only.
 use Rattle.std.specs.Prelude.{ℕ, ◌/◌, ◌%◌, List, [], ◌∷◌}
 use Rattle.text.specs.Page.{joined}
-use Rattle.text.specs.Number.{decimal, hexadecimal, word}
+use Rattle.text.specs.Number.{decimal, word}
+use Rattle.label.specs.Rfc5952.{address}
 use Rattle.sender.specs.declared.PublicKey.{PublicKey}
 use Rattle.sender.specs.declared.Group.TheVariants.{V4, V6}
 use Rattle.sender.specs.declared.Unit.{Unit}
@@ -18,12 +19,13 @@ v4_label prefix =
     ((118 ∷ 52 ∷ 58 ∷ []) ∷ decimal (prefix / 256) ∷ (46 ∷ []) ∷ decimal (prefix % 256)
     ∷ (46 ∷ 48 ∷ 46 ∷ 48 ∷ 47 ∷ 49 ∷ 54 ∷ []) ∷ [])
 
--- `v6:`, the two halves in hexadecimal with `:` between, `::/32`
+-- the eight fields of the address of a /32 prefix: two are given, six are zero
+unfoldable pub prefix_fields : ℕ → List ℕ
+prefix_fields prefix = prefix / 65536 ∷ prefix % 65536 ∷ 0 ∷ 0 ∷ 0 ∷ 0 ∷ 0 ∷ 0 ∷ []
+
+-- `v6:`, the prefix as an address, `/32`
 unfoldable pub v6_label : ℕ → List ℕ
-v6_label prefix =
-    joined
-    ((118 ∷ 54 ∷ 58 ∷ []) ∷ hexadecimal (prefix / 65536) ∷ (58 ∷ []) ∷ hexadecimal (prefix % 65536)
-    ∷ (58 ∷ 58 ∷ 47 ∷ 51 ∷ 50 ∷ []) ∷ [])
+v6_label prefix = joined ((118 ∷ 54 ∷ 58 ∷ []) ∷ address (prefix_fields prefix) ∷ (47 ∷ 51 ∷ 50 ∷ []) ∷ [])
 
 -- `no_address`
 abbrev pub no_address : List ℕ

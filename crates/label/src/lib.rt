@@ -3,10 +3,11 @@
 
 ghost use Rattle.std.specs.Prelude.{◌≡◌, ◌≤◌, length, take};
 ghost use Rattle.io.specs.Counts.{IsPrefixLen};
-ghost use Rattle.text.specs.Page.{page, placed, write};
+ghost use Rattle.text.specs.Page.{page, placed, write, writes};
 ghost use Rattle.text.specs.Pages.{seen};
 ghost use Rattle.text.specs.Order.{less as before};
 ghost use Rattle.label.specs.Label.{label, key_label, v4_label, v6_label};
+ghost use Rattle.label.specs.Short.{shown};
 
 use sender::{Group, PublicKey, Unit};
 use std::marker::Model;
@@ -45,15 +46,32 @@ fn v4_text(prefix: u16, out: &mut [u8; LABEL_MOST]) -> usize
     text.at
 }
 
-#[tactic(auto, using(crate::proofs::Labels::five_written, crate::proofs::Labels::hexadecimal_short), unfolding(crate::specs::Label::v6_label))]
+// The fields in front of the zeros that `::` stands for.
+#[tactic(auto, unfolding(crate::specs::Short::shown, text::specs::Page::writes))]
+fn put_shown(high: u64, low: u64, out: &mut Page<'_>)
+    ensures same_reference { out.new.out.ghost_name ≡ out.old.out.ghost_name }
+    ensures value { seen out.new ≡ writes (seen out.old) (shown high low) }
+{
+    if low != 0 {
+        out.put_hexadecimal(high);
+        out.put(b":");
+        out.put_hexadecimal(low);
+    } else if high != 0 {
+        out.put_hexadecimal(high);
+    }
+}
+
+#[tactic(auto, using(crate::proofs::Labels::v6_written))]
 fn v6_text(prefix: u32, out: &mut [u8; LABEL_MOST]) -> usize
     ensures { page out.new result ≡ write (page out.old 0) (v6_label prefix) }
 {
     let mut text = Page::at_front(out);
     text.put(b"v6:");
-    text.put_hexadecimal(u64::from(prefix >> 16));
-    text.put(b":");
-    text.put_hexadecimal(u64::from(prefix % (1 << 16)));
+    put_shown(
+        u64::from(prefix >> 16),
+        u64::from(prefix % (1 << 16)),
+        &mut text,
+    );
     text.put(b"::/32");
     text.at
 }

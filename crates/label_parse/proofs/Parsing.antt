@@ -2,7 +2,7 @@
 use mathlib.Core.Path.{◌≡◌, refl, sym, ap, ◌∙◌}
 use mathlib.Core.Bool.{Bool, true, false, cond}
 use mathlib.Core.List.{List, [], ◌∷◌, ◌++◌, append_assoc}
-use Prim.Native.Nat.{ℕ, ◌/◌, ◌%◌, ◌<◌}
+use Prim.Native.Nat.{ℕ, zero, suc, ◌+◌, ◌*◌, ◌/◌, ◌%◌, ◌<◌}
 use native.Mathlib.Nat.{div-add-mod', mod-lt, div-lt_iff_lt-mul, mod-eq_of_lt}
 use native.Mathlib.Omega.{arith}
 use lib.Dec.{eqb}
@@ -21,8 +21,10 @@ use Rattle.std.specs.Prelude.{Option, Some, None, is_some}
 use Rattle.std.specs.Bool.{then_some}
 use Rattle.std.specs.Cmp.Lexicographic.{pointwise}
 use Rattle.label.specs.Label.{label, key_label, v4_label, v6_label}
-use Rattle.label_parse.specs.Parse.{digit, field, word_at, key_of, v4_of, v6_of, unit_in, is_label, parse, KeyFits, InRange, Exact}
-use Rattle.label_parse.proofs.Reading.{field_digits, first_value, second_value}
+use Rattle.label.specs.Short.{shown, short_label}
+use Rattle.label.proofs.Short.{not_zero, is_short}
+use Rattle.label_parse.specs.Parse.{digit, field, first_of, second-of, word_at, key_of, v4_of, v6_of, unit_in, is_label, parse, KeyFits, InRange, Exact}
+use Rattle.label_parse.proofs.Reading.{field_digits, first_value, second_value, alone_value, none_behind}
 
 -- a word printed is read back
 word_read : (s p t : List ℕ) (n place : ℕ) → s ≡ p ++ (word n ++ t) → length p ≡ place → n < 18446744073709551616 → word_at s place ≡ n
@@ -75,15 +77,32 @@ v4_read n below =
     let y = second_value 10 (omega arith) (omega arith) 20 3 118 52 58 (n / 256) 46 (n % 256) 46 t (omega arith) (omega arith) (omega arith) (omega arith) (omega arith) (omega arith) in
     simp (x, y, mod-eq_of_lt p, mod-eq_of_lt q) (div-add-mod' n 256)
 
+-- both fields printed
+both_read : (a b : ℕ) → a < 65536 → b < 65536 → v6_of (118 ∷ 54 ∷ 58 ∷ (hexadecimal a ++ (58 ∷ (hexadecimal b ++ (58 ∷ 58 ∷ 47 ∷ 51 ∷ 50 ∷ []))))) ≡ a * 65536 + b
+unfolding v6_of hexadecimal digit
+both_read a b p q =
+    let t : List ℕ = 58 ∷ 47 ∷ 51 ∷ 50 ∷ [] in
+    let x = first_value 16 (omega arith) (omega arith) 16 4 118 54 58 a 58 b 58 t (omega arith) (omega arith) p q (omega arith) (omega arith) in
+    let y = second_value 16 (omega arith) (omega arith) 16 4 118 54 58 a 58 b 58 t (omega arith) (omega arith) p q (omega arith) (omega arith) in
+    simp (x, y)
+
+-- what the short form shows of two fields is read back as them
+shown_read : (a b : ℕ) → a < 65536 → b < 65536 → v6_of (118 ∷ 54 ∷ 58 ∷ joined (shown a b ++ ((58 ∷ 58 ∷ 47 ∷ 51 ∷ 50 ∷ []) ∷ []))) ≡ a * 65536 + b
+unfolding v6_of first_of second-of field digit shown joined hexadecimal
+shown_read zero zero p q = refl
+shown_read (suc a) zero p q =
+    let t : List ℕ = 47 ∷ 51 ∷ 50 ∷ [] in
+    let x = alone_value 16 (omega arith) (omega arith) 16 4 118 54 58 (suc a) 58 58 t (omega arith) (omega arith) p (omega arith) (omega arith) in
+    let y = none_behind 16 (omega arith) (omega arith) 16 4 118 54 58 (suc a) 58 58 t (omega arith) (omega arith) p (omega arith) (omega arith) in
+    rw (not_zero a) (simp (x, y))
+shown_read zero (suc b) p q = rw (not_zero b) (both_read 0 (suc b) p q)
+shown_read (suc a) (suc b) p q = rw (not_zero b) (both_read (suc a) (suc b) p q)
+
 v6_read : (n : ℕ) → n < 4294967296 → v6_of (v6_label n) ≡ n
-unfolding v6_of v6_label joined hexadecimal digit
+unfolding short_label joined
 v6_read n below =
     let p : n / 65536 < 65536 = (div-lt_iff_lt-mul {k = 65536} (omega arith)).1 below in
-    let q : n % 65536 < 65536 = mod-lt n (omega arith) in
-    let t : List ℕ = 58 ∷ 47 ∷ 51 ∷ 50 ∷ [] in
-    let x = first_value 16 (omega arith) (omega arith) 16 4 118 54 58 (n / 65536) 58 (n % 65536) 58 t (omega arith) (omega arith) (omega arith) (omega arith) (omega arith) (omega arith) in
-    let y = second_value 16 (omega arith) (omega arith) 16 4 118 54 58 (n / 65536) 58 (n % 65536) 58 t (omega arith) (omega arith) (omega arith) (omega arith) (omega arith) (omega arith) in
-    simp (x, y) (div-add-mod' n 65536)
+    rw (is_short n) (shown_read (n / 65536) (n % 65536) p (mod-lt n (omega arith)) ∙ div-add-mod' n 65536)
 
 -- the fields of a label give its unit
 unit_read : (u : unit.Unit) → InRange u → unit_in (label u) ≡ u

@@ -1,8 +1,8 @@
 -- A number printed in a text is read back by `field`. Assumes nothing.
-use mathlib.Core.Path.{◌≡◌, refl, sym, ap, ◌∙◌}
+use mathlib.Core.Path.{◌≡◌, refl, sym, ap, subst, ◌∙◌}
 use mathlib.Core.List.{List, [], ◌∷◌, ◌++◌, append_assoc}
 use Prim.Native.Nat.{ℕ, zero, suc, ◌+◌, ◌-◌, ◌*◌, ◌/◌, ◌%◌, ◌^◌, ◌≤◌, ◌<◌}
-use native.Mathlib.Nat.{pow-suc, pow-zero, one-mul, mod-lt, mod-eq_of_lt, div-lt_iff_lt-mul, div-add-mod'}
+use native.Mathlib.Nat.{add_assoc, pow-suc, pow-zero, one-mul, mod-lt, mod-eq_of_lt, div-lt_iff_lt-mul, div-add-mod'}
 use native.Mathlib.Decide.{dec_lt}
 use native.Mathlib.Omega.{arith}
 use borrow.Author.Tests.{lt-ltb, le-ltb}
@@ -138,3 +138,30 @@ module _ (base : ℕ) (some : 1 < base) (few : base ≤ 16) where
         ∙ ap (λ (f : Field). f.value)
         (field_numeral most m text (head ++ numeral base most a ++ (mid ∷ [])) t b x (3 + length (numeral base most a) + 1) parts
         (simp length-append (omega arith)) below_b pos l ends_b)
+
+  -- one numeral behind three bytes, with two bytes that are no digits behind it: the second field is 0
+  module _ (most m : ℕ) (h0 h1 h2 a mid x : ℕ) (t : List ℕ) (pos : 0 < m) (l : m ≤ most) (below : a < base ^ m) (ends_a : base ≤ digit mid) (ends_x : base ≤ digit x) where
+    abbrev front : List ℕ
+    front = h0 ∷ h1 ∷ h2 ∷ []
+
+    abbrev single : List ℕ
+    single = front ++ (numeral base most a ++ (mid ∷ x ∷ t))
+
+    alone-is : first_of base m single ≡ at a (3 + length (numeral base most a))
+    unfolding first_of
+    alone-is = field_numeral most m single front (x ∷ t) a mid 3 refl refl below pos l ends_a
+
+    pub alone_value : (first_of base m single).value ≡ a
+    alone_value = ap (λ (f : Field). f.value) alone-is
+
+    byte_next : get_or single (3 + length (numeral base most a) + 1) 0 ≡ x
+    byte_next =
+        ap (λ (k : ℕ). get_or single k 0) (add_assoc 3 (length (numeral base most a)) 1)
+        ∙ byte_behind single front (numeral base most a ++ (mid ∷ [])) t x 3 (length (numeral base most a) + 1)
+        (ap (λ (q : List ℕ). front ++ q) (sym (append_assoc (numeral base most a) (mid ∷ []) (x ∷ t)))) refl (length-append (numeral base most a) (mid ∷ []))
+
+    pub none_behind : (second-of base m single).value ≡ 0
+    unfolding second-of
+    none_behind =
+        ap (λ (f : Field). (field base m single (from (f.at + 1))).value) alone-is
+        ∙ ap (λ (f : Field). f.value) (field_stop base single (from (3 + length (numeral base most a) + 1)) m (subst (λ (y : ℕ). base ≤ digit y) (sym byte_next) ends_x))

@@ -17,6 +17,8 @@ use Rattle.sender.specs.declared.Group.TheVariants.{V4, V6}
 use Rattle.sender.specs.declared.Unit as unit
 use Rattle.sender.specs.declared.Unit.TheVariants.{Corroborated, Group as Grouped, NoAddress, Overflow}
 use Rattle.label.specs.Label.{label, key_label, v4_label, v6_label}
+use Rattle.label.specs.Short.{shown, short_label}
+use Rattle.label.proofs.Short.{is_short}
 use Rattle.store.specs.declared.Cause as cause
 use Rattle.store.specs.declared.Cause.TheVariants.{ReceiverCeiling, OverShare, RelayRate}
 use Rattle.trial_script.specs.Fields.{width, first, rest}
@@ -124,11 +126,30 @@ five_clear a b c d e ea eb ec ed ee =
     (clear_append d (e ++ []) ed
     (clear_append e [] ee refl))))
 
+-- what is shown of the two fields of a V6 group, and `::/32`
+module _ (a b : ℕ) where
+  either : (s t : Bool) → Clear (joined (cond s (cond t [] (hexadecimal a ∷ [])) (hexadecimal a ∷ (58 ∷ []) ∷ hexadecimal b ∷ []) ++ ((58 ∷ 58 ∷ 47 ∷ 51 ∷ 50 ∷ []) ∷ [])))
+  unfolding joined width
+  either true true = refl
+  either true false = clear_append (hexadecimal a) (58 ∷ 58 ∷ 47 ∷ 51 ∷ 50 ∷ []) (hexadecimal_clear a) refl
+  either false t =
+      clear_append (hexadecimal a) (58 ∷ (hexadecimal b ++ (58 ∷ 58 ∷ 47 ∷ 51 ∷ 50 ∷ []))) (hexadecimal_clear a)
+      (clear_append (58 ∷ []) (hexadecimal b ++ (58 ∷ 58 ∷ 47 ∷ 51 ∷ 50 ∷ [])) refl
+      (clear_append (hexadecimal b) (58 ∷ 58 ∷ 47 ∷ 51 ∷ 50 ∷ []) (hexadecimal_clear b) refl))
+
+  shown_clear : Clear (joined (shown a b ++ ((58 ∷ 58 ∷ 47 ∷ 51 ∷ 50 ∷ []) ∷ [])))
+  unfolding shown
+  shown_clear = either (eqb b 0) (eqb a 0)
+
+v6_clear : (n : ℕ) → Clear (v6_label n)
+unfolding short_label joined width
+v6_clear n = rw (is_short n) (clear_append (118 ∷ 54 ∷ 58 ∷ []) _ refl (shown_clear (n / 65536) (n % 65536)))
+
 pub label_clear : (u : unit.Unit) → Clear (label u)
-unfolding label key_label v4_label v6_label width
+unfolding label key_label v4_label width
 label_clear (Corroborated k) = five_clear _ _ _ _ _ refl (word_clear k.a) (word_clear k.b) (word_clear k.c) (word_clear k.d)
 label_clear (Grouped (V4 n)) = five_clear _ _ _ _ _ refl (decimal_clear (n / 256)) refl (decimal_clear (n % 256)) refl
-label_clear (Grouped (V6 n)) = five_clear _ _ _ _ _ refl (hexadecimal_clear (n / 65536)) refl (hexadecimal_clear (n % 65536)) refl
+label_clear (Grouped (V6 n)) = v6_clear n
 label_clear NoAddress = refl
 label_clear Overflow = refl
 

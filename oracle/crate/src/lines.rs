@@ -2,6 +2,7 @@
 use crate::group::Group;
 use crate::shed::{Cause, Unit};
 use crate::key::PublicKey;
+use std::net::Ipv6Addr;
 
 pub enum Line {
     Start([u64; 4]),
@@ -35,9 +36,8 @@ pub fn unit(s: &[u8]) -> Option<Unit> {
         let (a, b) = (number(a.as_bytes(), 255)?, number(b.as_bytes(), 255)?);
         Unit::Group(Some(Group::V4((a << 8 | b) as u16)))
     } else {
-        let (a, b) = t.strip_prefix("v6:")?.strip_suffix("::/32")?.split_once(':')?;
-        let (a, b) = (u16::from_str_radix(a, 16).ok()?, u16::from_str_radix(b, 16).ok()?);
-        Unit::Group(Some(Group::V6(u32::from(a) << 16 | u32::from(b))))
+        let address: Ipv6Addr = t.strip_prefix("v6:")?.strip_suffix("/32")?.parse().ok()?;
+        Unit::Group(Some(Group::V6((u128::from(address) >> 96) as u32)))
     };
     // the label, and only it
     (u.label() == t).then_some(u)
