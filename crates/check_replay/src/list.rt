@@ -134,8 +134,9 @@ pub fn run_all(rt: &impl Print, alloc: Global, reader: &mut impl BufRead) -> io:
     let mut list = List::new(alloc);
     let mut kept = Vec::new(alloc);
     // A loop must end, and nothing says that an input does: so the lines are counted up to a number that no run reaches. std's
-    // `forever` would need a handle to wait, which this program does not take. Each of the three programs that read lists has
-    // this loop: a function over what is done with a line would ask that it may be called again after each call.
+    // `forever` would need a handle to wait, which this program does not take, and its lines would take a last one that has no
+    // end. Each of the three programs that read lists has this loop: a function over what is done with a line would ask that it
+    // may be called again after each call.
     for _ in 0..u64::MAX {
         let Some(line) = whole_line(reader, &mut kept)? else {
             break;

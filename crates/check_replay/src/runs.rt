@@ -60,7 +60,8 @@ pub fn run(
 ) -> io::Result<()> {
     let mut m = Memory::<TAGS, UNITS, COUNTED>::zeroed();
     let mut page = [0; REPORT];
-    // Made here and in shedtrial: a method of `Memory` could not promise what the rows hold once they come back.
+    // Made here and in shedtrial: a method of `Memory` could not promise what the rows hold once they come back. (check_edges lends
+    // parts of them.)
     let mut lent = Lent {
         tags: &mut m.tags,
         units: &mut m.units,

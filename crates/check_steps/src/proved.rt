@@ -51,6 +51,7 @@ fn level_of(dim: usize, of: &[f64]) -> Level
 }
 
 fn levels(rt: &impl Print) -> io::Result<()> {
+    // By place: `level_of` takes the dimension by it.
     for d in 0..DIMS {
         println!(rt; "rate 10, level of 2, 20: {}", level_of(d, &[2.0, 20.0]))?;
         println!(rt; "rate 10, level of 2, 3: {}", level_of(d, &[2.0, 3.0]))?;

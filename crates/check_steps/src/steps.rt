@@ -35,7 +35,7 @@ pub enum Call {
     },
 }
 
-// The part of the head that is made unfit. Fit is one of them and no None: the list of steps writes each by its name.
+// The part of the head that is made unfit. Fit is one of them and no None: a step is printed with its fault's number, 0 for Fit.
 #[derive(Clone, Copy, PartialEq)]
 pub enum Fault {
     Fit,
@@ -65,7 +65,7 @@ pub struct Lengths {
     pub out: usize,
 }
 
-// What is written of a step. Nothing is one of them and no None: the list of steps writes each by its name.
+// What is written of a step. Nothing is one of them and no None: one match tells them all.
 #[derive(Clone, Copy)]
 pub enum Says {
     Nothing,

@@ -33,6 +33,7 @@ fn dim_code(dim: Dim) -> u64
     }
 }
 
+// Both numbers are given, since two rules have sides.
 fn by_side(side: Side, within: u64, over: u64) -> u64
     ensures { result ≡ decisions.by_side side within over }
 {
@@ -79,6 +80,7 @@ fn ruled(answer: Result<Verdict, Refusal>, rule: Rule) -> Decision
     }
 }
 
+// A match: a judgement without a rule has codes of its own.
 #[tactic(auto, unfolding(crate::specs::Decisions::decision_of))]
 pub fn decision_of(answer: Result<Verdict, Refusal>, ruling: Option<Rule>) -> Decision
     ensures { result ≡ decisions.decision_of answer ruling }

@@ -16,7 +16,7 @@ pub fn cause_of(n: u64) -> Cause
     }
 }
 
-// Apart from `flow::dim_at`, whose number is a place: what any other number of C's means is said here.
+// No call of `flow::dim_at`, which takes a place: a cast would be no plainer than the match.
 #[tactic(auto, unfolding(crate::specs::Numbers::dim_of, flow::specs::Flow::dim_at))]
 pub fn dim_of(n: u64) -> Dim
     ensures { result ≡ numbers.dim_of n }

@@ -35,7 +35,7 @@ pub struct Replayed {
     pub over_share: bool,
 }
 
-// Whether a call is one of the run: its place is, and it was not refused by number, which is 0 then, as the definition has it.
+// Whether a call is one of the run: its place is, and its number is 0, as of a call that was not refused; a number, as in the definition.
 #[tactic(auto, unfolding(fair_row::specs::Replay::counts))]
 fn counts(inside: bool, number: u64) -> bool
     ensures { result ≡ replay.counts inside number }
@@ -89,7 +89,7 @@ pub fn replay(
         over_share: false,
     };
     let end = to.min(list.len());
-    // By place: the run is told by places of the list.
+    // By place: the run and the list's end are told by places; `enumerate` would need a `take` beside it.
     for i in 0..end {
         let turned = fair_row::turn(run.head, lent, histogram, watched, list[i], out);
         run = after(run, turned, from <= i);

@@ -116,7 +116,7 @@ pub fn per_second(rate: u64) -> f64
     }
 }
 
-// Rates or costs as doubles: `whole` of each, which an array's `From` does not take.
+// Rates or costs as doubles, `per_second` of each: the definition's word; std has no `From` of arrays that rounds.
 #[tactic(auto, unfolding(crate::specs::Flow::numbers))]
 pub fn numbers(xs: [u64; DIMS]) -> [f64; DIMS]
     ensures { result ≡ flow.numbers xs }
@@ -148,7 +148,7 @@ pub fn later(a: u64, b: u64) -> u64
 
 // ---- the bucket
 
-// The part of a ceiling that a burst holds: std's method at the definition's bound, under the name that is read there.
+// The part of a ceiling that a burst holds: std's `min` with RATE_MOST, named, since the bucket that is opened reads plainer so.
 fn held(ceiling: u64) -> u64
     ensures { result ≡ min ceiling flow.RATE_MOST }
 {

@@ -34,7 +34,7 @@ fn raised(xs: [f64; DIMS], cost: [f64; DIMS]) -> [f64; DIMS]
     flow::per_dim(|d| xs[d] + cost[d])
 }
 
-// The rank of the record used: the unit's, by its hash, or overflow's.
+// The rank of the record used: the unit's, by its hash, or overflow's. A match: each arm is a case of the definition.
 #[tactic(auto, unfolding(crate::specs::Judging::rank_at))]
 fn rank_at(hash: u64, at: Option<usize>) -> f64
     ensures { (room : ℕ) → IfSome at (λ i. i < room) → result ≡ judging.rank_at hash (unwrap_or at room) room }

@@ -109,6 +109,7 @@ fn put_sources(out: &mut Page<'_>, counted: &[SourceRow], n: usize)
     ensures value { seen out.new ≡ writes (seen out.old) (lines.source_lines counted.now (sources.reported counted.now n)) }
 {
     let mut last = None;
+    // So many turns: each source is found from the one before.
     for _ in 0..SOURCES_REPORTED {
         let Some(next) = first_after(counted, n, last) else {
             return;

@@ -28,7 +28,7 @@ fn add_all(histogram: &mut Histogram<'_>, want: [f64; DIMS])
     ensures sums_after { wants_held histogram.new ≡ walking.adds want dims (wants_held histogram.old) }
     ensures arrays { SameArrays histogram.old histogram.new }
 {
-    // By place: `add` takes the dimension by it.
+    // By place: `add` takes the dimension by it; `enumerate` would make a second name of what `want[d]` says.
     for d in 0..DIMS {
         histogram.add(d, want[d]);
     }

@@ -5,7 +5,7 @@ ghost use Rattle.sender.specs.Sender as sender;
 use super::hash::{hash_of, tag_of_hash};
 use super::{Group, Name, PublicKey, Unit, Words};
 
-// The words of a kind that has one number.
+// The words of a kind that has one number; no `From`, since the kind is given too.
 fn number(kind: u64, a: u64) -> Words
     ensures { result ≡ sender.number kind a }
 {

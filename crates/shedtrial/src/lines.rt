@@ -37,6 +37,7 @@ fn answered(
     line: &Page<'_>,
     page: &mut Page<'_>,
 ) -> Trial {
+    // A method of `Memory` could not promise what the rows hold once they come back.
     let mut lent = Lent {
         tags: &mut memory.tags,
         units: &mut memory.units,

@@ -47,7 +47,8 @@ pub fn entry(records: &mut Records<'_>, tracked: usize, named: Named, clock: u64
     Place { at: None, tracked }
 }
 
-// The use at a place: a record's, or overflow's, which a place past the records reads too.
+// The use at a place: a record's, or overflow's, which a place past the records reads too. A match here and below: each arm is a
+// case of the definition.
 #[tactic(auto, unfolding(crate::specs::Entering::used_at))]
 pub fn used_at(records: &Records<'_>, overflow: Use, at: Option<usize>) -> Use
     requires { length records.now.units.now ≡ length records.now.uses.now }

@@ -191,7 +191,7 @@ pub extern "C" fn tankpost_report_refusal(
     codes::answer_number(report::report_refusal(head, &lent, out))
 }
 
-// ---- the readings
+// ---- the readings: one shape, each an exported call of its own
 
 #[unsafe(no_mangle)]
 pub extern "C" fn tankpost_visited(head: Shedder) -> Count

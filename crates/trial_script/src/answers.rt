@@ -35,7 +35,7 @@ pub fn put_refused(page: &mut Page<'_>, n: u64)
     page.put(&own[..k]);
 }
 
-// The word of what was done, or the refusal.
+// The word of what was done, or the refusal. A match: each arm writes.
 fn put_unless_refused(page: &mut Page<'_>, answer: Result<(), Refusal>, done: &[u8])
     ensures same_reference { page.new.out.ghost_name ≡ page.old.out.ghost_name }
     ensures value { MatchResult answer (λ _. seen page.new ≡ write (seen page.old) done.now)
