@@ -1,4 +1,4 @@
--- The addresses that RFC 5952 spells, by computing. Assumes nothing.
+-- The addresses that RFC 5952 names, by computing. Assumes nothing.
 use mathlib.Core.Path.{refl}
 use Rattle.text.specs.Number.{numeral, hexadecimal}
 use Rattle.label.specs.Rfc5952.{address, longest, zeros, colons, shortened}

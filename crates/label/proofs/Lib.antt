@@ -1,4 +1,4 @@
--- Addresses: those that RFC 5952 spells. Short: the label of a V6 group is its short form. Labels: the text is written.
+-- Addresses: some that RFC 5952 names. Short: the label of a V6 group is its short form. Labels: the text is written.
 pub mod Addresses
 pub mod Short
 pub mod Labels

@@ -5,7 +5,7 @@ use Rattle.text.specs.Page.{joined}
 use Rattle.text.specs.Number.{hexadecimal}
 use Rattle.label.specs.Rfc5952.{address, longest, zeros, colons, shortened}
 use Rattle.label.specs.Label.{v6_label, prefix_fields}
-use Rattle.label.specs.Short.{shown, short_label}
+use Rattle.label.specs.Short.{shown, short_label, IsShort}
 
 pub not_zero : (n : ℕ) → eqb (suc n) 0 ≡ false
 not_zero n = ne_eqb (suc n) 0 (λ e. omega arith)
@@ -22,6 +22,6 @@ with_length (suc a) zero = rw (not_zero a) (append_assoc (hexadecimal (suc a)) (
 with_length zero (suc b) = rw (not_zero b) (both 0 (suc b))
 with_length (suc a) (suc b) = rw (not_zero b) (both (suc a) (suc b))
 
-pub is_short : (prefix : ℕ) → v6_label prefix ≡ short_label prefix
+pub is_short : IsShort
 unfolding v6_label prefix_fields short_label joined
 is_short prefix = ap (λ (l : List ℕ). 118 ∷ 54 ∷ 58 ∷ l) (with_length (prefix / 65536) (prefix % 65536))

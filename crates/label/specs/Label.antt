@@ -23,7 +23,7 @@ v4_label prefix =
 unfoldable pub prefix_fields : ℕ → List ℕ
 prefix_fields prefix = prefix / 65536 ∷ prefix % 65536 ∷ 0 ∷ 0 ∷ 0 ∷ 0 ∷ 0 ∷ 0 ∷ []
 
--- `v6:`, the prefix as an address, `/32`
+-- `v6:`, the prefix as an address (RFC 5952, section 7: a prefix is written as an address is), `/32`
 unfoldable pub v6_label : ℕ → List ℕ
 v6_label prefix = joined ((118 ∷ 54 ∷ 58 ∷ []) ∷ address (prefix_fields prefix) ∷ (47 ∷ 51 ∷ 50 ∷ []) ∷ [])
 
