@@ -9,7 +9,8 @@ CHECKOUT has crates/relay/src/shed.rs and directory.rs; the two files are writte
 An edit is (kind, label, old text, new text, number of matches). An old text `FROM ... TO` is all from FROM to the next TO.
 Kinds: alone (does not compile without), map (records in order of arrival), sizes (capacities by parameter), numbers (the
 stand-ins of document 01 for what Rust leaves open), rule (which question decided, asked beside the verdict: document 02, K1),
-label (a V6 group's prefix as std prints an address, by RFC 5952: document 02, K5).
+label (a V6 group's prefix as std prints an address, by RFC 5952: document 02, K5), order (the counts of a level are added from the
+highest bucket down: document 02, K7).
 """
 import os
 import sys
@@ -51,6 +52,8 @@ EDITS = [
     ('numbers', 'max', 'scan.trim[dim]).max(1.0)', 'scan.trim[dim]).max01(1.0)', 1),
     ('label', 'RFC 5952', 'format!("v6:{:x}:{:x}::/32", prefix >> 16, prefix & 0xffff)',
      'format!("v6:{}/32", std::net::Ipv6Addr::from(u128::from(prefix) << 96))', 1),
+    ('order', 'counts from the top', '            .counts\n            .iter()\n            .map(|count| f64::from(*count))',
+     '            .counts\n            .iter()\n            .rev()\n            .map(|count| f64::from(*count))', 1),
     ('rule', 'the questions beside the verdict', '        if verdict.is_ok() {\n            for (bucket, cost)',
      '        ASKED.set(Some(asked(wants, resolved.rank(), used.credit, &flow.buckets, attempted)));\n'
      '        if verdict.is_ok() {\n            for (bucket, cost)', 1),
@@ -73,7 +76,7 @@ def edited(text, label, old, new, count):
 def main():
     checkout, folder = sys.argv[1:3]
     mode = sys.argv[3] if len(sys.argv) > 3 else ''
-    kinds = {'': 'alone map sizes numbers label rule', '--plain': 'alone map sizes label rule', '--original': 'alone'}[mode].split()
+    kinds = {'': 'alone map sizes numbers label order rule', '--plain': 'alone map sizes label order rule', '--original': 'alone'}[mode].split()
     source = os.path.join(checkout, 'crates', 'relay', 'src')
     text = open(os.path.join(source, 'shed.rs')).read()
     made = [edit for edit in EDITS if edit[0] in kinds]

@@ -33,7 +33,7 @@ sums_filled d (w ∷ ws) h l =
 
 -- the level in any dimension is that of one row, filled from nothing
 pub row_level : List Float → Float
-row_level ws = found (walked (row_counts ws (replicate 768 0)) (row_sums ws (replicate 768 nothing)) (whole 10) 768)
+row_level ws = found (walked (row_counts ws (replicate 768 0)) (row_sums ws (replicate 768 nothing)) (whole 10) (counted (row_counts ws (replicate 768 0)) 768 768) 768)
 
 pub level_filled : (d : ℕ) (ws : List Float) → d < dims → level_of d ws ≡ row_level ws
 unfolding level cleared row_level
@@ -42,8 +42,8 @@ level_filled d ws h =
     counts_filled d ws cleared h ∙ ap (row_counts ws) (get_or-replicate dims d (replicate 768 0) [] h) in
     let s : sums_of (of_wants d ws cleared) d ≡ row_sums ws (replicate 768 nothing) =
     sums_filled d ws cleared h ∙ ap (row_sums ws) (get_or-replicate dims d (replicate 768 nothing) [] h) in
-    ap (λ (cs : List ℕ). found (walked cs (sums_of (of_wants d ws cleared) d) (whole 10) 768)) c
-    ∙ ap (λ (ss : List Float). found (walked (row_counts ws (replicate 768 0)) ss (whole 10) 768)) s
+    ap (λ (cs : List ℕ). found (walked cs (sums_of (of_wants d ws cleared) d) (whole 10) (counted cs 768 768) 768)) c
+    ∙ ap (λ (ss : List Float). found (walked (row_counts ws (replicate 768 0)) ss (whole 10) (counted (row_counts ws (replicate 768 0)) 768 768) 768)) s
 
 -- two wants of which one is cut; two within the rate; none
 pub cut : row_level (whole 2 ∷ whole 20 ∷ []) ≡ whole 8

@@ -2,6 +2,7 @@ pub mod Each
 pub mod Even
 pub mod Least
 pub mod Octave
+pub mod Orders
 pub mod Pattern
 pub mod Raised
 pub mod Steps

@@ -2,16 +2,8 @@
 use Rattle.std.proofs.Common.{◌≡◌, ℕ, zero, suc, ◌+◌, ◌-◌, ◌≤◌, true, false, List, get_or, sym, refl, ap, subst, add-zero, add-suc, add-sub_of_le, add-one, eq-eqb, ne_eqb}
 use lib.Ieee as Ieee
 use lib.Ieee.{Float, binary64}
-use Rattle.ieee.specs.Doubles.{nothing, whole}
-use Rattle.wants.specs.Wants.{counted, Walk, fits, stopped, next, walked, found}
-
-pub counted_none : (cs : List ℕ) → counted cs 0 ≡ nothing
-unfolding counted
-counted_none cs = refl
-
-pub counted_next : (cs : List ℕ) (b : ℕ) → counted cs (b + 1) ≡ Ieee.add binary64 (counted cs b) (whole (get_or cs b 0))
-unfolding counted
-counted_next cs b = rw add-one
+use Rattle.ieee.specs.Doubles.{whole}
+use Rattle.wants.specs.Wants.{Walk, fits, stopped, next, walked, found}
 
 -- a bucket: empty, within what is left, or not
 pub empty : (n : ℕ) (sum left remaining : Float) → n ≡ 0 → next n sum (fits left remaining) ≡ fits left remaining
@@ -29,18 +21,18 @@ module _ (n : ℕ) (sum left remaining count : Float) (some : n ≡ 0 → ⊥) (
   stopping h = rw (ne_eqb n 0 some, ← is, h)
 
 -- a turn of the walk, from what it came to
-pub walked_next : (cs : List ℕ) (ss : List Float) (rate : Float) (b : ℕ) {w : Walk} → walked cs ss rate b ≡ w → walked cs ss rate (b + 1) ≡ next (get_or cs b 0) (get_or ss b Ieee.nan) w
+pub walked_next : (cs : List ℕ) (ss : List Float) (rate units : Float) (b : ℕ) {w : Walk} → walked cs ss rate units b ≡ w → walked cs ss rate units (b + 1) ≡ next (get_or cs b 0) (get_or ss b Ieee.nan) w
 unfolding walked
-walked_next cs ss rate b e = rw (add-one, e)
+walked_next cs ss rate units b e = rw (add-one, e)
 
-still : (cs : List ℕ) (ss : List Float) (rate l : Float) (b k : ℕ) → walked cs ss rate b ≡ stopped l → walked cs ss rate (b + k) ≡ stopped l
+still : (cs : List ℕ) (ss : List Float) (rate units l : Float) (b k : ℕ) → walked cs ss rate units b ≡ stopped l → walked cs ss rate units (b + k) ≡ stopped l
 unfolding walked next
-still cs ss rate l b zero e = rw (add-zero, e)
-still cs ss rate l b (suc k) e = rw (add-suc, still cs ss rate l b k e)
+still cs ss rate units l b zero e = rw (add-zero, e)
+still cs ss rate units l b (suc k) e = rw (add-suc, still cs ss rate units l b k e)
 
-pub stays : (cs : List ℕ) (ss : List Float) (rate l : Float) {b n : ℕ} → b ≤ n → walked cs ss rate b ≡ stopped l → walked cs ss rate n ≡ stopped l
-stays cs ss rate l {b} {n} h e = subst (λ (i : ℕ). walked cs ss rate i ≡ stopped l) (add-sub_of_le h) (still cs ss rate l b (n - b) e)
+pub stays : (cs : List ℕ) (ss : List Float) (rate units l : Float) {b n : ℕ} → b ≤ n → walked cs ss rate units b ≡ stopped l → walked cs ss rate units n ≡ stopped l
+stays cs ss rate units l {b} {n} h e = subst (λ (i : ℕ). walked cs ss rate units i ≡ stopped l) (add-sub_of_le h) (still cs ss rate units l b (n - b) e)
 
-pub found_level : (cs : List ℕ) (ss : List Float) (rate l : Float) {b : ℕ} → b ≤ 768 → walked cs ss rate b ≡ stopped l → l ≡ found (walked cs ss rate 768)
+pub found_level : (cs : List ℕ) (ss : List Float) (rate units l : Float) {b : ℕ} → b ≤ 768 → walked cs ss rate units b ≡ stopped l → l ≡ found (walked cs ss rate units 768)
 unfolding found
-found_level cs ss rate l h e = sym (ap found (stays cs ss rate l h e))
+found_level cs ss rate units l h e = sym (ap found (stays cs ss rate units l h e))

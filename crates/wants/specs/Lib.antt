@@ -1,3 +1,4 @@
 pub mod Bucket
 pub mod Held
 pub mod Wants
+pub mod Laws

@@ -1,5 +1,5 @@
 -- The histogram of wants, its clearing and filling, and the level found from it. Definitions only.
-use Rattle.std.specs.Prelude.{ℕ, zero, suc, ◌+◌, ◌%◌, ◌^◌, cond, List, [], get_or, replicate, ◌==◌, slice_index, slice_index_or, slice_set, Float}
+use Rattle.std.specs.Prelude.{ℕ, zero, suc, ◌+◌, ◌-◌, ◌%◌, ◌^◌, cond, List, [], get_or, replicate, ◌==◌, slice_index, slice_index_or, slice_set, Float}
 use Rattle.std.specs.Float.Ieee as Ieee
 use Rattle.ieee.specs.Doubles.{◌⊕◌, ◌⊖◌, ◌⊗◌, ◌⊘◌, ◌⊴◌, nothing, whole, infinity}
 use Rattle.flow.specs.Flow.{dims}
@@ -39,10 +39,10 @@ added h d want = record {
 
 -- ---- the level of one dimension
 
--- the units counted in the first so many buckets, summed upward
-unfoldable pub counted : List ℕ → ℕ → Float
-counted counts zero = nothing
-counted counts (suc b) = counted counts b ⊕ whole (slice_index counts b)
+-- the units counted in the last so many of n buckets, summed from the highest down
+unfoldable pub counted : List ℕ → ℕ → ℕ → Float
+counted counts n zero = nothing
+counted counts n (suc b) = counted counts n b ⊕ whole (slice_index counts (n - suc b))
 
 -- The walk over the buckets: so far all of them fit, with so much of the rate left and so many units remaining; or it has stopped, at a level.
 pub data Walk : Type 0 where
@@ -61,10 +61,10 @@ unfoldable pub next : ℕ → Float → Walk → Walk
 next count sum (stopped level) = stopped level
 next count sum (fits left remaining) = cond (count == 0) (fits left remaining) (filled (whole count) sum left remaining)
 
--- the first so many buckets
-unfoldable pub walked : List ℕ → List Float → Float → ℕ → Walk
-walked counts sums rate zero = fits rate (counted counts «BUCKETS»)
-walked counts sums rate (suc b) = next (slice_index counts b) (slice_index_or sums b Ieee.nan) (walked counts sums rate b)
+-- the first so many buckets, from the lowest up, of all in which so many units are counted
+unfoldable pub walked : List ℕ → List Float → Float → Float → ℕ → Walk
+walked counts sums rate units zero = fits rate units
+walked counts sums rate units (suc b) = next (slice_index counts b) (slice_index_or sums b Ieee.nan) (walked counts sums rate units b)
 
 -- where every bucket fits there is no level
 unfoldable pub found : Walk → Float
@@ -72,4 +72,4 @@ found (fits left remaining) = infinity
 found (stopped level) = level
 
 unfoldable pub level : Hist → ℕ → Float → Float
-level h d rate = found (walked (counts_of h d) (sums_of h d) rate «BUCKETS»)
+level h d rate = found (walked (counts_of h d) (sums_of h d) rate (counted (counts_of h d) «BUCKETS» «BUCKETS») «BUCKETS»)

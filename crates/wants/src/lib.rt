@@ -49,12 +49,12 @@ impl Histogram<'_> {
         self.sums[dim][b] += want;
     }
 
-    // The number of units counted in a dimension. The definition sums doubles from the lowest bucket up. Each of those sums is
-    // a whole number below 2^53, so none is rounded, and the whole numbers summed first come to the same double. A loop: its
-    // invariant is the definition's sum up to a bucket, which std's `sum` would hide.
+    // The number of units counted in a dimension. The definition sums doubles from the highest bucket down. Each of those sums is
+    // a whole number below 2^53, so none is rounded, and the whole numbers summed in any order come to the same double. A loop:
+    // its invariant is the sum up to a bucket, which std's `sum` would hide.
     fn counted(&self, dim: usize) -> f64
         requires { dim < dims }
-        ensures { result ≡ wants.counted (slice_index_or self.now.counts.now dim []) bucket.«BUCKETS» }
+        ensures { result ≡ wants.counted (slice_index_or self.now.counts.now dim []) bucket.«BUCKETS» bucket.«BUCKETS» }
     {
         let counts = &*self.counts;
         let mut total = 0;

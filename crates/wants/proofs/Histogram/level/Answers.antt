@@ -10,17 +10,17 @@ loop-b-init c = simp c.counted-remaining.ensures
 
 pub loop-b-preserved-then-n-eq0 : goal.loop-b-preserved-then-n-eq0
 loop-b-preserved-then-n-eq0 c =
-    walked_next _ _ _ _ c.loop-b.invariant ∙ empty _ _ _ _ c.if-n-eq0.true
+    walked_next _ _ _ _ _ c.loop-b.invariant ∙ empty _ _ _ _ c.if-n-eq0.true
 
 pub loop-b-preserved : goal.loop-b-preserved
 loop-b-preserved c =
-    walked_next _ _ _ _ c.loop-b.invariant ∙ fitting _ _ _ _ _ c.if-n-eq0.false c.from-count.ensures c.if-sum-count.true
+    walked_next _ _ _ _ _ c.loop-b.invariant ∙ fitting _ _ _ _ _ c.if-n-eq0.false c.from-count.ensures c.if-sum-count.true
 
 pub returns-else-sum-count : goal.returns-else-sum-count
 unfolding level
 returns-else-sum-count c =
-    found_level _ _ _ _ (search rules) (
-    walked_next _ _ _ _ c.loop-b.invariant
+    found_level _ _ _ _ _ (search rules) (
+    walked_next _ _ _ _ _ c.loop-b.invariant
     ∙ stopping _ _ _ _ _ c.if-n-eq0.false c.from-count.ensures c.if-sum-count.false)
 
 pub returns : goal.returns
