@@ -37,7 +37,7 @@ def threshold(b):
 
 TABLES = {
     'A': [nearest((Decimal(-r) / 2000).exp()) for r in range(2000)],
-    'B': [nearest(Decimal(-q).exp()) for q in range(64)],
+    'B': [nearest(Decimal(-q).exp()) for q in range(700)],
     'T': [threshold(b) for b in range(768)],
 }
 with open(os.path.join(sys.argv[1], 'tables.rs'), 'w') as f:

@@ -2,7 +2,7 @@
 
 Style 0 has lines of no form, 1 calls that are refused by number, 3 more senders than the store holds, 4 few senders that send
 most, 5 and 6 many cuts, 7 few cuts, 8 stamps that go back, 9 a stamp at its end; the others are mixed. All have later starts,
-unbounded relays, reports, and stamps that jump past the limits of document 01 (500, 2,000, 8,000 and 128,000 ms).
+unbounded relays, reports, and stamps that jump past the limits of the Shedder (500, 2,000, 8,000 and 1,400,000 ms).
 """
 import ipaddress
 import random
@@ -13,7 +13,7 @@ U64 = 2 ** 64 - 1
 CAUSES = ['receiver-ceiling', 'over-share', 'relay-rate']
 STEPS = [0, 1, 1, 3, 10, 50, 100, 400, 1000, 2000, 9000]
 SCALES = [.05, .3, 1, 1, 2, 10]
-JUMPS = [1999, 2000, 2001, 7999, 8000, 8001, 127999, 128000, 499, 500, 501, 4000, 1400000, 10 ** 9]
+JUMPS = [1999, 2000, 2001, 7999, 8000, 8001, 1399999, 1400000, 499, 500, 501, 200000, 1500000, 10 ** 9]
 # the part of cuts among the calls, where a style has its own
 CUTS = {5: .5, 6: .3, 7: .02}
 

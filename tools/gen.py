@@ -1,7 +1,7 @@
 #!/usr/bin/env python3
 """Writes the tables of the crate fade, src/tables.rt.
 
-Usage: gen.py [ENTRIES_OF_B]     64 if none is given; `long` of specs/Fade.antt has to say the same number.
+Usage: gen.py [ENTRIES_OF_B]     700 if none is given; `long` of specs/Fade.antt has to say the same number.
 Nothing here is trusted: the check computes that each entry is the double that the definition gives, and that it is the nearest one.
 """
 import os
@@ -39,7 +39,7 @@ def tables(long):
 
 
 def main():
-    long = int(sys.argv[1]) if len(sys.argv) > 1 else 64
+    long = int(sys.argv[1]) if len(sys.argv) > 1 else 700
     with open(os.path.join(CRATE, 'src', 'tables.rt'), 'w', encoding='utf-8') as f:
         f.write(tables(long))
 

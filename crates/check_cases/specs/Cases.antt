@@ -80,9 +80,9 @@ pub record Cases : Type 0 where
   pub prefix_zero : label (Grouped (V6 0)) ≡ 118 ∷ 54 ∷ 58 ∷ 58 ∷ 58 ∷ 47 ∷ 51 ∷ 50 ∷ []
   pub prefix_second : label (Grouped (V6 0x0db8)) ≡ 118 ∷ 54 ∷ 58 ∷ 48 ∷ 58 ∷ 100 ∷ 98 ∷ 56 ∷ 58 ∷ 58 ∷ 47 ∷ 51 ∷ 50 ∷ []
   pub prefix_both : label (Grouped (V6 0x2001_0db8)) ≡ 118 ∷ 54 ∷ 58 ∷ 50 ∷ 48 ∷ 48 ∷ 49 ∷ 58 ∷ 100 ∷ 98 ∷ 56 ∷ 58 ∷ 58 ∷ 47 ∷ 51 ∷ 50 ∷ []
-  -- fade of 0 is 1, of 128,000 is 0
+  -- fade of 0 is 1, of 1,400,000 is 0
   pub fade_0 : fade 0 ≡ fin false 1 (pos 0)
-  pub fade_128000 : fade 128000 ≡ fin false 0 (pos 0)
+  pub fade_1400000 : fade 1400000 ≡ fin false 0 (pos 0)
   -- rate 10, fresh cost 20, tokens 10: want 1, RelayRate; at any stamp and for any rank
   pub tokens_10 : (opened 10 0).tokens ≡ whole 10
   pub want_1 : (clock : ℕ) → fresh_want clock ≡ one

@@ -122,7 +122,7 @@ pub fn run(rt: &impl Print) -> io::Result<()> {
         pruned(rt, totals)?;
     }
     prefix(rt)?;
-    for stamp in [0, 128000] {
+    for stamp in [0, 1_400_000] {
         println!(rt; "fade of {stamp}: {}", fade::fade(stamp))?;
     }
     fresh_want(rt)

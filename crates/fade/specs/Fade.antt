@@ -17,7 +17,7 @@ WINDOW_MS = 2000
 
 -- how many windows the fade goes back: the entries of the table B
 abbrev pub long : ℕ
-long = 64
+long = 700
 
 -- from these milliseconds on the fade is 0
 abbrev pub end : ℕ

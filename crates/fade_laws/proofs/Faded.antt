@@ -1,8 +1,8 @@
 -- The rounded product of an entry of each table: positive, within 2 ^ -51 of the exponential, and falling. Assumes nothing.
 use mathlib.Core.Path.{◌≡◌, sym, ap, ◌∙◌, subst}
 use mathlib.Core.Bool.{true, false}
-use Prim.Native.Nat.{ℕ, suc, ◌+◌, ◌-◌, ◌*◌, ◌/◌, ◌%◌, ◌^◌, ◌≤◌, ◌<◌}
-use native.Mathlib.Nat.{le_refl, le_trans, le_of_eq, lt_of_le_of_lt, mul_left_comm, mul-mul-mul_comm, mul-one, one-mul, zero-mul, mul-pos, mul-le-mul, mul-le-mul_left, mul-lt-mul_of_pos_left, mod-add-div}
+use Prim.Native.Nat.{ℕ, zero, suc, ◌+◌, ◌-◌, ◌*◌, ◌/◌, ◌%◌, ◌^◌, ◌≤◌, ◌<◌}
+use native.Mathlib.Nat.{le_refl, le_trans, le_of_eq, lt_irrefl, lt_of_le_of_lt, lt_of_lt_of_le, le_of_mul-le-mul_left, le_of_mul-le-mul_right, mul_assoc, mul_right_comm, mul-le-mul_right, pow-suc, mul_left_comm, mul-mul-mul_comm, mul-one, one-mul, zero-mul, mul-pos, mul-le-mul, mul-le-mul_left, mul-lt-mul_of_pos_left, mod-add-div}
 use native.Mathlib.Omega.{arith}
 use lib.IntN.{pos}
 use lib.Dec.{T, lit≤, lit<, ltb→lt, lt→ltb}
@@ -12,7 +12,7 @@ use lib.Ieee.Fits.{up_pos}
 use lib.Ieee.Order.{round_mono}
 use lib.Ieee.Scale.{normal_of_fraction, round_under}
 use lib.Ieee.Positive.{num, den, den_pos, positive, positive-finite, own_value, value_pos, mul_at, between}
-use Rattle.fade_laws.specs.Laws.{Nearest, Close, parts}
+use Rattle.fade_laws.specs.Laws.{Nearest, Close, normal, NotSubnormal, parts}
 use Rattle.fade_laws.proofs.Rounding.{Near, round_near}
 use Rattle.fade_laws.proofs.Rounded.{Normal, rounded_close}
 use Rattle.fade_laws.proofs.Middle.{rounded_nearest}
@@ -53,6 +53,48 @@ entry_normal k q p x l e =
 pub entry_nearest : (k q p : ℕ) (x : Float) → 0 < q → 52 + k < 1074 → Entry k q p x → Nearest p q x
 entry_nearest k q p x Q l e = rounded_nearest p q x Q (entry_normal k q p x l e) e.rounded
 
+positive_factor : (a b : ℕ) → 0 < a * b → 0 < a
+positive_factor zero b h = absurd (lt_irrefl 0 (lt_of_lt_of_le h (le_of_eq (zero-mul b))))
+positive_factor (suc a) b h = omega arith
+
+-- ---- a fraction from 2 ^ -k on, with k below `normal`, is above 2 ^ -normal
+stands : (a c k : ℕ) → 0 < a → c ≤ a * 2 ^ k → k < normal → c < a * 2 ^ normal
+stands a c k A h l = lt_of_le_of_lt h (mul-lt-mul_of_pos_left (pow-lt l) A)
+
+num_pos : (x : Float) → T (positive x) → 0 < num x
+num_pos x h = value_pos x (num x) (den x) h (den_pos x) (own_value x h)
+
+pub entry_stands : (k q p : ℕ) (x : Float) → k < normal → Entry k q p x → NotSubnormal x
+entry_stands k q p x l e = (e.rounded.above, stands (num x) (den x) k (num_pos x e.rounded.above) e.least l)
+
+-- x is within one part in P of y: it is at most twice y
+twice_most : (x y P : ℕ) → 2 ≤ P → x * P ≤ y * P + x → x ≤ y * 2
+twice_most x y P h n =
+    let two : x * 2 ≤ x * P = mul-le-mul_left x h in
+    let turned : y * 2 * P ≡ y * P * 2 = mul_right_comm y 2 P in
+    le_of_mul-le-mul_right {k = P} (omega arith) (omega (arith, two, turned, n))
+
+rounds_normal : (a c : ℕ) → 0 < c → a ≤ c → c ≤ a * 2 ^ 1020 → NotSubnormal (round binary64 false a c)
+rounds_normal a c C h k = (above, stands (num z) (den z) 1021 (num_pos z above) least (lit< tt))
+  where
+    z : Float
+    z = round binary64 false a c
+
+    above : T (positive z)
+    above = rounds_positive a c C h k
+
+    A : 0 < a
+    A = positive_factor a (2 ^ 1020) (lt_of_lt_of_le C k)
+
+    below : a * den z ≤ num z * c * 2
+    below = twice_most (a * den z) (num z * c) (2 ^ prec binary64) (lit≤ tt) (rounds_near a c C h k).low
+
+    moved : num z * (a * 2 ^ 1020) * 2 ≡ a * (num z * 2 ^ 1021)
+    moved = ap (λ (w : ℕ). w * 2) (mul_left_comm (num z) a (2 ^ 1020)) ∙ mul_assoc a (num z * 2 ^ 1020) 2 ∙ ap (λ (w : ℕ). a * w) (mul_assoc (num z) (2 ^ 1020) 2 ∙ ap (λ (w : ℕ). num z * w) (sym (pow-suc 2 1020)))
+
+    least : den z ≤ num z * 2 ^ 1021
+    least = le_of_mul-le-mul_left (le_trans below (le_trans (mul-le-mul_right 2 (mul-le-mul_left (num z) k)) (le_of_eq moved))) A
+
 -- ---- two entries
 both_least : (a b c d j k : ℕ) → c ≤ a * 2 ^ j → d ≤ b * 2 ^ k → j + k ≤ 1020 → c * d ≤ a * b * 2 ^ 1020
 both_least a b c d j k x y l =
@@ -61,12 +103,14 @@ both_least a b c d j k x y l =
 
 pub record Faded (d : ℕ) (z : Float) : Type 0 where
   pub above : T (positive z)
+  pub not_subnormal : NotSubnormal z
   pub close : Close parts d 2000 z
 
 pub faded : (j k d : ℕ) (x y : Float) → j + k ≤ 1020 → Entry j 2000 (d % 2000) x → Entry k 1 (d / 2000) y → Faded d (mul binary64 x y)
 faded j k d x y l ex ey =
     record {
       above = subst (λ (w : Float). T (positive w)) (sym is) (rounds_positive a c C most least);
+      not_subnormal = subst NotSubnormal (sym is) (rounds_normal a c C most least);
       close = subst (λ (w : Float). Close parts d 2000 w) (sym is)
           (subst (λ (n : ℕ). Close parts n 2000 (round binary64 false a c)) (mod-add-div d 2000)
           (product_close (2 ^ prec binary64 - 1) (parts - 1) (d % 2000) (2000 * (d / 2000)) 2000 x y (round binary64 false a c) (lit< tt) (lit≤ tt) (lit≤ tt)

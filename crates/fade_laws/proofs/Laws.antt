@@ -14,7 +14,7 @@ use Rattle.fade_laws.specs.Laws.{Series, Fading}
 use Rattle.fade_laws.proofs.Series.{capped, narrows}
 use Rattle.fade.proofs.Sides.{during, after}
 use Rattle.fade.proofs.Entries.{Entry, entry_at, positive_number}
-use Rattle.fade_laws.proofs.Faded.{Faded, entry_nearest, faded, during_falls, above_zero}
+use Rattle.fade_laws.proofs.Faded.{Faded, entry_nearest, entry_stands, faded, during_falls, above_zero}
 use Rattle.fade.proofs.Tested.{least_a, least_b, passes_a, passes_b}
 
 pub series : Series
@@ -53,6 +53,9 @@ pub fading : Fading
 fading = record {
   short = λ r h. entry_nearest least_a 2000 r (nearest r 2000) (lit< tt) (lit< tt) (short r h);
   far = λ q h. entry_nearest least_b 1 q (nearest q 1) (lit< tt) (lit< tt) (far q h);
+  short_normal = λ r h. entry_stands least_a 2000 r (nearest r 2000) (lit< tt) (short r h);
+  far_normal = λ q h. entry_stands least_b 1 q (nearest q 1) (lit< tt) (far q h);
+  product_normal = λ d h. (product d h).not_subnormal;
   close = λ d h. (product d h).close;
   above = λ d h. (product d (omega arith)).above;
   falls = falls;

@@ -32,6 +32,13 @@ pub record Close (h p q : ℕ) (z : Float) : Type 0 where
 abbrev pub parts : ℕ
 parts = 2 ^ 51
 
+-- 2 ^ -normal is the least positive double that is not subnormal: its significand has all 53 digits. What is positive and above it has them too
+abbrev pub normal : ℕ
+normal = 1022
+
+abbrev pub NotSubnormal : Float → Type 0
+NotSubnormal x = T (positive x) × (den x < num x * 2 ^ normal)
+
 -- with each term more the width of a late enclosure falls to one part in 2, or below
 abbrev pub narrowing : ℕ
 narrowing = 2
@@ -43,11 +50,14 @@ pub record Series : Type 0 where
   pub encloses : (p q n m : ℕ) → 0 < q → Late p q n → top p q m * bot q n ≤ cap p q n * bot q m
   pub narrows : (p q n k : ℕ) → 0 < q → Late p q n → p ^ (n + k) * narrowing ^ k * bot q n ≤ p ^ n * bot q (n + k)
 
--- each double that the fade multiplies is the nearest; the fade is within 2 ^ -51, relatively, of exp(-d / 2000), and positive, up to the end; it falls strictly,
--- also at the step to 0; and it is always a double and never a not-a-number
+-- each double that the fade multiplies is the nearest, and none of them and no product is subnormal; the fade is within 2 ^ -51, relatively, of exp(-d / 2000),
+-- and positive, up to the end; it falls strictly, also at the step to 0; and it is always a double and never a not-a-number
 pub record Fading : Type 0 where
   pub short : (r : ℕ) → r < 2000 → Nearest r 2000 (nearest r 2000)
   pub far : (q : ℕ) → q < long → Nearest q 1 (nearest q 1)
+  pub short_normal : (r : ℕ) → r < 2000 → NotSubnormal (nearest r 2000)
+  pub far_normal : (q : ℕ) → q < long → NotSubnormal (nearest q 1)
+  pub product_normal : (d : ℕ) → d < end → NotSubnormal (fade d)
   pub close : (d : ℕ) → d < end → Close parts d 2000 (fade d)
   pub above : (d : ℕ) → d < end → T (positive (fade d))
   pub falls : (d e : ℕ) → d < e → e ≤ end → T (lt (fade e) (fade d))
