@@ -1,0 +1,25 @@
+-- `parts::Parts::drop_stale` meets its contract. Assumes nothing.
+use Rattle.std.proofs.Common.{◌+◌, arith}
+use Rattle.shifting.proofs.Whole.{whole_below}
+use Rattle.parts.specs.Held.{held}
+use Rattle.parts.proofs.Behind.{behind_dropped}
+use Rattle.parts.proofs.Passing.{none_left, none_dropped}
+use Rattle.parts.proofs.Parts.drop_stale.Goals as goal
+
+pub first_stale-first-requires-clause-to_in_bounds : goal.first_stale-first-requires-clause-to_in_bounds
+first_stale-first-requires-clause-to_in_bounds c = let b = whole_below _ _ c.requires.whole (c.args.table + 1) (omega arith) in omega arith
+
+pub returns-then-first-to-clause-value : goal.returns-then-first-to-clause-value
+returns-then-first-to-clause-value c =
+    none_left (held c.args.self.now) c.args.tracked c.args.table c.args.at_ms c.requires.sizes c.requires.tracked_fits (c.requires.whole.rises c.args.table c.requires.table_in_bounds)
+    (whole_below _ _ c.requires.whole (c.args.table + 1) (omega arith)) c.first_stale-first.result c.first_stale-first.ensures.lower_bound c.first_stale-first.ensures.upper_bound c.first_stale-first.ensures.none c.if-first-to.true
+
+pub returns-then-first-to-clause-rows_after : goal.returns-then-first-to-clause-rows_after
+returns-then-first-to-clause-rows_after c =
+    none_dropped (held c.args.self.now) c.args.tracked c.args.table c.args.at_ms c.requires.sizes c.requires.tracked_fits (c.requires.whole.rises c.args.table c.requires.table_in_bounds)
+    (whole_below _ _ c.requires.whole (c.args.table + 1) (omega arith)) c.first_stale-first.result c.first_stale-first.ensures.lower_bound c.first_stale-first.ensures.upper_bound c.first_stale-first.ensures.none c.if-first-to.true
+
+pub returns-clause-tags_behind : goal.returns-clause-tags_behind
+returns-clause-tags_behind c =
+    behind_dropped (held c.args.self.now) (held c.drop_from.new.self) c.args.tracked c.args.table c.args.at_ms c.requires.sizes c.requires.tracked_fits c.requires.whole c.requires.table_in_bounds
+    c.drop_from.ensures.rows_after

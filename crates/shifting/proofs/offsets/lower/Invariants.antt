@@ -1,0 +1,7 @@
+-- `shifting::lower` meets its contract. Assumes nothing.
+use Rattle.std.proofs.Common.{◌≡◌, ◌-◌}
+use Rattle.shifting.proofs.Whole.{mapping}
+use Rattle.shifting.proofs.offsets.lower.Given as goal
+
+abbrev pub invariant-loop-k : goal.invariant-loop-k
+invariant-loop-k l = l.starts ≡ mapping (λ o. o - l.d) l.initial.starts l.i l.k
