@@ -13,7 +13,7 @@ use Rattle.flow.specs.Flow.{at, dims}
 use Rattle.flow.proofs.Parts.{upto_at, upto_length}
 use Rattle.sender.specs.declared.Words.{Words}
 use Rattle.sender.specs.declared.Name.{Name}
-use Rattle.store.specs.Store.{Rows, rows, part, picked, joined, unit_row, words_at, name_at, use_at, units_put, uses_put, added}
+use Rattle.store.specs.Store.{Rows, part, picked, joined, unit_row, words_at, name_at, use_at, put, added}
 use Rattle.store.proofs.Names.{words_put}
 use Rattle.fair.proofs.View as view
 use Rattle.store.proofs.Places.{Same, put_other}
@@ -63,13 +63,13 @@ use_of u v p q r s =
     ∙ ap (λ (x : ℕ). record { attempted = v.attempted; credit = v.credit; at_ms = x; fresh = u.fresh }) r
     ∙ ap (λ (x : ℕ). record { attempted = v.attempted; credit = v.credit; at_ms = v.at_ms; fresh = x }) s
 
-module _ (units : List (List ℕ)) (uses : List (List Float)) (i : ℕ) (u : Use) (w : Whole u) (hu : i < length units) (hs : i < length uses) where
-  pub put_back_read : length (get_or units i []) ≡ 7 → use_at (units_put units i u) (uses_put uses i u) i ≡ u
-  unfolding use_at units_put uses_put
+module _ (m : Rows) (i : ℕ) (u : Use) (w : Whole u) (hu : i < length m.units) (hs : i < length m.uses) where
+  pub put_back_read : length (get_or m.units i []) ≡ 7 → use_at (put m i u) i ≡ u
+  unfolding use_at put
   put_back_read seven =
-      let r = unit_row units i in
-      let e : get_or (set units i (set (set r 5 u.at_ms) 6 u.fresh)) i [] ≡ set (set r 5 u.at_ms) 6 u.fresh = get_or-set_same units i _ [] hu in
-      let f : get_or (set uses i (joined u.attempted u.credit)) i [] ≡ joined u.attempted u.credit = get_or-set_same uses i _ [] hs in
+      let r = unit_row m.units i in
+      let e : get_or (set m.units i (set (set r 5 u.at_ms) 6 u.fresh)) i [] ≡ set (set r 5 u.at_ms) 6 u.fresh = get_or-set_same m.units i _ [] hu in
+      let f : get_or (set m.uses i (joined u.attempted u.credit)) i [] ≡ joined u.attempted u.credit = get_or-set_same m.uses i _ [] hs in
       let s4 : get_or (set (set r 5 u.at_ms) 6 u.fresh) 5 0 ≡ u.at_ms =
       get_or-set_other (set r 5 u.at_ms) 6 5 u.fresh 0 (λ q. absurd (omega arith)) ∙ get_or-set_same r 5 u.at_ms 0 (omega arith) in
       let s5 : get_or (set (set r 5 u.at_ms) 6 u.fresh) 6 0 ≡ u.fresh =
@@ -112,14 +112,11 @@ module _ (room : ℕ) where
 
   -- ---- a use put at a place of the live ones: that record has the use, every other record is as it was
   module _ (m : Rows) (i : ℕ) (u : Use) (whole : Whole u) (hi : i < length m.tags) (hu : i < length m.units) (hs : i < length m.uses) (seven : length (get_or m.units i []) ≡ 7) where
-    abbrev putted : Rows
-    putted = rows m.tags (units_put m.units i u) (uses_put m.uses i u)
+    pub put_elsewhere : (j : ℕ) → (j ≡ i → ⊥) → record_at (put m i u) j ≡ record_at m j
+    put_elsewhere j h = record_same (put m i u) j m j (put_other m i u j h)
 
-    pub put_elsewhere : (j : ℕ) → (j ≡ i → ⊥) → record_at (rows m.tags (units_put m.units i u) (uses_put m.uses i u)) j ≡ record_at m j
-    put_elsewhere j h = record_same putted j m j (put_other m i u j h)
-
-    pub put_there : record_at (rows m.tags (units_put m.units i u) (uses_put m.uses i u)) i ≡ row (name_at m.tags m.units i) u
-    unfolding view.record_at
+    pub put_there : record_at (put m i u) i ≡ row (name_at m.tags m.units i) u
+    unfolding view.record_at put
     put_there =
-        ap (λ (w : Words). row (record { tag = get_or m.tags i 0; words = w }) (use_at (units_put m.units i u) (uses_put m.uses i u) i)) (words_put m.units i u hu)
-        ∙ ap (λ (x : Use). row (name_at m.tags m.units i) x) (put_back_read m.units m.uses i u whole hu hs seven)
+        ap (λ (w : Words). row (record { tag = get_or m.tags i 0; words = w }) (use_at (put m i u) i)) (words_put m i u hu)
+        ∙ ap (λ (x : Use). row (name_at m.tags m.units i) x) (put_back_read m i u whole hu hs seven)

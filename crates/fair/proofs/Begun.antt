@@ -18,6 +18,7 @@ use Rattle.flow.specs.Flow.{dims, at, bucket_at}
 use Rattle.flow.specs.declared.Bucket.{Bucket}
 use Rattle.flow.proofs.Parts.{upto_at, upto_length, buckets_at}
 use Rattle.store.specs.Store as store
+use Rattle.store.specs.Held.{sizes_of}
 use Rattle.wants.specs.Wants as wants
 use Rattle.head.specs.declared.Shedder.{Shedder}
 use Rattle.std.proofs.Common.{Ok}
@@ -117,8 +118,8 @@ started n h o g k false e = absurd (let z : ◌≡◌ {A = ℕ} 0 1 = cc in omeg
 pub left_is : (was : Shedder) (m : Memory) (rate ceiling : List ℕ) → (calls.starts was m rate ceiling).answer ≡ Ok tt → (calls.starts was m rate ceiling).head ≡ goal.opening rate ceiling (length m.rows.units) (length m.counted)
 unfolding goal.start
 left_is was m rate ceiling e =
-    started (goal.start_asked rate (length m.rows.tags) (length m.rows.units) (length m.rows.uses) (length m.counted)) was (goal.opening rate ceiling (length m.rows.units) (length m.counted)) m.hist wants.cleared
-    (eqb (goal.start_asked rate (length m.rows.tags) (length m.rows.units) (length m.rows.uses) (length m.counted)) 0) e
+    started (goal.start_asked rate (sizes_of m.rows m.counted)) was (goal.opening rate ceiling (length m.rows.units) (length m.counted)) m.hist wants.cleared
+    (eqb (goal.start_asked rate (sizes_of m.rows m.counted)) 0) e
 
 pub left_tied : (was : Shedder) (m : Memory) (rate ceiling : List ℕ) → goal.all_rates rate ≡ true → (calls.starts was m rate ceiling).answer ≡ Ok tt
     → Tied (length m.rows.units) rate (calls.left was m rate ceiling).head m.rows (model.store Name same shares (length m.rows.units) (by_dim rate) (by_dim ceiling) []) 0

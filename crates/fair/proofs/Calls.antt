@@ -17,6 +17,7 @@ use Rattle.verdict.specs.declared.Verdict.TheVariants as verdict
 use Rattle.sender.specs.declared.Unit as unit
 use Rattle.sender.specs.Sender as sender
 use Rattle.store.specs.Store as store
+use Rattle.store.specs.Held.{sizes_of}
 use Rattle.head.specs.declared.Shedder.{Shedder}
 use Rattle.std.proofs.Common.{Result, Ok}
 use Rattle.head.specs.declared.Refusal.{Refusal}
@@ -56,8 +57,8 @@ verdict_taken v = refl
 judge_kept : (h : Shedder) (m : Memory) (u : unit.Unit) (cost : List ℕ) (t : ℕ) → calls.refused (calls.state_of h m) (Judge u cost t) ≡ true → calls.state_of (goal.judge h m u cost t).head (goal.judge h m u cost t).memory ≡ calls.state_of h m
 unfolding goal.judge
 judge_kept h m u cost t f =
-    go (goal.judge_asked h (length m.rows.tags) (length m.rows.units) (length m.rows.uses) (length m.counted) cost t)
-    (eqb (goal.judge_asked h (length m.rows.tags) (length m.rows.units) (length m.rows.uses) (length m.counted) cost t) 0)
+    go (goal.judge_asked h (sizes_of m.rows m.counted) cost t)
+    (eqb (goal.judge_asked h (sizes_of m.rows m.counted) cost t) 0)
     (goal.is_unbounded h.flow.rate) f
   where
     taken : ltb 0 (goal.judge_number (goal.bounded h m u cost t).answer) ≡ false
@@ -88,8 +89,8 @@ cut-kept : (h : Shedder) (m : Memory) (u : unit.Unit) (c : Cause) (cost : List �
 unfolding goal.cut goal.noted goal.answer_number
 cut-kept h m u c cost f =
     cut_chosen h m (goal.cut_after m.counted u c cost (goal.handed_back (goal.kept_by h m.rows) u (goal.numbers cost))) (goal.cut_after m.counted u c cost (goal.kept_by h m.rows)) refl refl
-    (goal.cut_asked h (length m.rows.tags) (length m.rows.units) (length m.rows.uses) (length m.counted) cost)
-    (eqb (goal.cut_asked h (length m.rows.tags) (length m.rows.units) (length m.rows.uses) (length m.counted) cost) 0) (goal.hands_back h.flow.rate c) f
+    (goal.cut_asked h (sizes_of m.rows m.counted) cost)
+    (eqb (goal.cut_asked h (sizes_of m.rows m.counted) cost) 0) (goal.hands_back h.flow.rate c) f
 
 -- ---- answers and verdicts
 if-same : (v : Verdict) (x : ℕ) → calls.if_admitted (goal.answer_of v) x ≡ cond (is_admitted v) x 0
@@ -120,7 +121,7 @@ module _ (room : ℕ) (rate ceiling : List ℕ) (rates : goal.all_rates rate ≡
   -- a call as the model's: want, reserve, fade, fill and the rows that the scan drops are computed from the state that it got
   abbrev pub see : State → Call → C
   see s (Judge u cost t) = judging.judge_call room rate s.head s.memory u cost t
-  see s (Cut u c cost) = cutting.cut_call room rate c u cost
+  see s (Cut u c cost) = cutting.cut_call room rate s.head c u cost
   see s (Read q) = model.Other
 
   abbrev pub seen : Event → List Event → C
@@ -136,14 +137,14 @@ module _ (room : ℕ) (rate ceiling : List ℕ) (rates : goal.all_rates rate ≡
   Tie s ms = Tied room rate s.head s.memory.rows (store_of ms) (clock stamp ms)
 
   -- ---- stamps
-  cut_stamp : (c : Cause) (u : unit.Unit) (cost : List ℕ) → stamp (cutting.cut_call room rate c u cost) ≡ 0
-  cut_stamp cause.ReceiverCeiling u cost = refl
-  cut_stamp cause.OverShare u cost = refl
-  cut_stamp cause.RelayRate u cost = refl
+  cut_stamp : (h : Shedder) (c : Cause) (u : unit.Unit) (cost : List ℕ) → stamp (cutting.cut_call room rate h c u cost) ≡ 0
+  cut_stamp h cause.ReceiverCeiling u cost = refl
+  cut_stamp h cause.OverShare u cost = refl
+  cut_stamp h cause.RelayRate u cost = refl
 
   stamp_same : (s : State) (c : Call) → calls.stamp_of c ≡ stamp (see s c)
   stamp_same s (Judge u cost t) = refl
-  stamp_same s (Cut u c cost) = sym (cut_stamp c u cost)
+  stamp_same s (Cut u c cost) = sym (cut_stamp s.head c u cost)
   stamp_same s (Read q) = refl
 
   -- ---- one step
@@ -160,9 +161,9 @@ module _ (room : ℕ) (rate ceiling : List ℕ) (rates : goal.all_rates rate ≡
     step_tied (Judge u cost t) f = judge_step room rate rates s (store_of ms) (clock stamp ms) b u cost t f
     step_tied (Cut u c cost) f =
         let j = goal.cut s.head s.memory.rows s.memory.counted u c cost in
-        subst (λ (k : ℕ). Tied room rate j.head j.rows (model.step Name same shares room (store_of ms) (clock stamp ms) (cutting.cut_call room rate c u cost)) k)
-        (let e : clock stamp ms ≡ max (stamp (cutting.cut_call room rate c u cost)) (clock stamp ms) = omega (arith, cut_stamp c u cost) in e)
-        (subst (λ (k : ℕ). Tied room rate j.head j.rows (model.step Name same shares room (store_of ms) k (cutting.cut_call room rate c u cost)) k) b.clock_is
+        subst (λ (k : ℕ). Tied room rate j.head j.rows (model.step Name same shares room (store_of ms) (clock stamp ms) (cutting.cut_call room rate s.head c u cost)) k)
+        (let e : clock stamp ms ≡ max (stamp (cutting.cut_call room rate s.head c u cost)) (clock stamp ms) = omega (arith, cut_stamp s.head c u cost) in e)
+        (subst (λ (k : ℕ). Tied room rate j.head j.rows (model.step Name same shares room (store_of ms) k (cutting.cut_call room rate s.head c u cost)) k) b.clock_is
         (cutting.cut_tied room rate rates s.head s.memory (store_of ms) at_clock u c cost f))
     step_tied (Read q) f = idle
 
@@ -262,7 +263,7 @@ module _ (room : ℕ) (rate ceiling : List ℕ) (rates : goal.all_rates rate ≡
       let m = s.memory.rows in
       let n = s.head.tracked in
       let w = sender.name_of u in
-      there_is (ltb (store.find m.tags m.units w n) n) (store.use_at m.units m.uses (store.find m.tags m.units w n))
+      there_is (ltb (store.find m.tags m.units w n) n) (store.use_at m (store.find m.tags m.units w n))
       ∙ ap demand.there (sym (finding.sought room m w n)) ∙ ap (λ (rs : List (view.R room)). demand.there (model.find Name same shares room (named w) rs)) b.rows_is
     where
       there_is : (c : Bool) (x : Use) → c ≡ demand.there (cond c (demand.present x) demand.absent)
@@ -400,7 +401,7 @@ module _ (room : ℕ) (rate ceiling : List ℕ) (rates : goal.all_rates rate ≡
       spared : T (Ieee.le (calls.want s u cost t) one) → ((d : ℕ) → d < dims → Modest r d (es (j ∷ h))) → (calls.judges s u cost t).answer ≡ Ok verdict.OverShare → ⊥
       unfolding ModelModest
       spared w m a =
-          the_claim.spared (name_of u) (judging.batch_at s.head u cost t (calls.entry s u (calls.clock_at s t))) (judging.fills s.head) _ ms (lawful_all (es h) (whole h).along) (lawful_same s ms (whole h).tie j f)
+          the_claim.spared (name_of u) (judging.batch_at s.head u cost t (calls.entry s u (calls.clock_at s t))) (judging.fills s.head) _ _ ms (lawful_all (es h) (whole h).along) (lawful_same s ms (whole h).tie j f)
           (subst (λ (c : List Float). T (Ieee.le (calls.want_of (calls.used s u (calls.clock_at s t)) (calls.clock_at s t) c (calls.fills s) s.head.level) one)) (numbers_priced cost) w)
           (modest m)
           (over_of (judged_verdict s ms (whole h).tie u cost t (clock stamp ms)) (sym (answer_same s ms (whole h).tie u cost t f) ∙ a))

@@ -6,7 +6,7 @@ use native.Mathlib.Omega.{arith}
 use mathlib.Core.Bool.{Bool, true, false, cond}
 use mathlib.Core.List.{List}
 use lib.Dec.{eqb, ltb}
-use lib.ListN.{length, get_or}
+use lib.ListN.{get_or}
 use lib.Ieee.{Float}
 use borrow.Author.Tests.{eqb-true, ltb-false}
 use Rattle.ieee.specs.Doubles.{whole}
@@ -17,6 +17,8 @@ use Rattle.flow.specs.declared.Use.{Use}
 use Rattle.sender.specs.declared.Unit as unit
 use Rattle.sender.specs.Sender as sender
 use Rattle.store.specs.Store.{Rows}
+use Rattle.store.specs.Held.{sizes_of}
+use Rattle.store.specs.declared.lent.Sizes.{Sizes}
 use Rattle.head.proofs.Tests.{zero_yes}
 use Rattle.head.specs.declared.Shedder.{Shedder}
 use Rattle.store.specs.declared.Cause.{Cause}
@@ -37,7 +39,7 @@ use Rattle.fair.proofs.Tied.{Tied, Bound}
 use Rattle.fair.proofs.Outcome as outcome
 use Rattle.fair.proofs.Outcome.{costs, numbers_priced}
 use Rattle.fair.proofs.Judging as judging
-use Rattle.fair.proofs.Judging.{found_at, not_unbounded, small_costs}
+use Rattle.fair.proofs.Judging.{found_at, new_place, not_unbounded, small_costs}
 
 -- the head and the rows that a cut is counted over: with the cost handed back, or as they were
 abbrev pub cut_on : Shedder → Rows → unit.Unit → Cause → List ℕ → goal.KeptBy
@@ -59,14 +61,14 @@ module _ (room : ℕ) (rate : List ℕ) where
   abbrev seen : K → S → demand.State
   seen k st = judging.seen room rate k st
 
-  abbrev after : K → demand.State → S → S
-  after k t st = judging.after room rate k t st
+  abbrev after : ℕ → K → demand.State → S → S
+  after place k t st = judging.after room rate place k t st
 
   -- a ReceiverCeiling cut is the model's cut, any other does nothing to a record
-  abbrev pub cut_call : Cause → unit.Unit → List ℕ → C
-  cut_call cause.ReceiverCeiling u cost = model.Cut (name_of u) (costs cost)
-  cut_call cause.OverShare u cost = model.Other
-  cut_call cause.RelayRate u cost = model.Other
+  abbrev pub cut_call : Shedder → Cause → unit.Unit → List ℕ → C
+  cut_call h cause.ReceiverCeiling u cost = model.Cut (name_of u) (costs cost) (new_place h u)
+  cut_call h cause.OverShare u cost = model.Other
+  cut_call h cause.RelayRate u cost = model.Other
 
   module _ (h : Shedder) (m : Rows) (st : S) (b : Bound room rate h m st h.flow.at_ms) (u : unit.Unit) (cost : List ℕ) where
     abbrev clk : ℕ
@@ -78,7 +80,7 @@ module _ (room : ℕ) (rate : List ℕ) where
     abbrev k : K
     k = resolve st u
 
-    p : Placed room m h.tracked h.overflow k st.bucket u clk e
+    p : Placed room m h.tracked h.overflow (new_place h u) k st.bucket u clk e
     p = judging.placed room rate h m st clk b u clk
 
     handed_is : (cst : List Float) → cst ≡ priced (costs cost) → present (flow.handed_back (found_at h e) cst) ≡ (does (seen k st) clk (demand.Cut (costs cost))).used
@@ -87,7 +89,7 @@ module _ (room : ℕ) (rate : List ℕ) where
         ∙ ap (λ (x : Use). present (flow.handed_back x (priced (costs cost)))) (judging.found-is room rate h m st clk b u clk e p)
 
     handed_bound_at : (cst : List Float) → cst ≡ priced (costs cost)
-        → Bound room rate (goal.handed_at h cst e).head (goal.handed_at h cst e).rows (after k (does (seen k st) clk (demand.Cut (costs cost))) st) clk
+        → Bound room rate (goal.handed_at h cst e).head (goal.handed_at h cst e).rows (after (new_place h u) k (does (seen k st) clk (demand.Cut (costs cost))) st) clk
     unfolding goal.flowed_back
     handed_bound_at cst q =
         judging.headed_bound room rate h m st clk b u clk e p (goal.flowed_back h.flow cst) (flow.handed_back (found_at h e) cst) (does (seen k st) clk (demand.Cut (costs cost)))
@@ -99,12 +101,12 @@ module _ (room : ℕ) (rate : List ℕ) where
         (λ d small. ap (λ (c : List Float). bucket_at (flow.returned_all h.flow.buckets c) d) q ∙ outcome.returned_at h.flow.buckets (costs cost) b.tied.long d small
         ∙ ap (λ (x : Bucket). flow.returned x (whole (costs cost d))) (b.tied.bucket_is d small))
 
-    handed_bound : Bound room rate (goal.handed_back (goal.kept_by h m) u (goal.numbers cost)).head (goal.handed_back (goal.kept_by h m) u (goal.numbers cost)).rows (model.step Name same shares room st clk (model.Cut (name_of u) (costs cost))) clk
+    handed_bound : Bound room rate (goal.handed_back (goal.kept_by h m) u (goal.numbers cost)).head (goal.handed_back (goal.kept_by h m) u (goal.numbers cost)).rows (model.step Name same shares room st clk (model.Cut (name_of u) (costs cost) (new_place h u))) clk
     unfolding goal.handed_back
     handed_bound = handed_bound_at (goal.numbers cost) (numbers_priced cost)
 
     on_bound : goal.is_unbounded h.flow.rate ≡ false → (c : Cause)
-        → Bound room rate (cut_on h m u c cost).head (cut_on h m u c cost).rows (model.step Name same shares room st clk (cut_call c u cost)) clk
+        → Bound room rate (cut_on h m u c cost).head (cut_on h m u c cost).rows (model.step Name same shares room st clk (cut_call h c u cost)) clk
     unfolding goal.hands_back goal.index_of
     on_bound f cause.ReceiverCeiling = rw f handed_bound
     on_bound f cause.OverShare = rw f b
@@ -123,21 +125,21 @@ chosen h m k n to x y true false q f = (refl, refl)
 chosen h m k n to x y false b q f = absurd (omega (arith, ltb-false 0 _ f, number_some (refusal_of n)))
 
 pub record Taken (h : Shedder) (m : Rows) (k : List (List ℕ)) (u : unit.Unit) (c : Cause) (cost : List ℕ) : Type 0 where
-  pub asked : goal.cut_asked h (length m.tags) (length m.units) (length m.uses) (length k) cost ≡ 0
+  pub asked : goal.cut_asked h (sizes_of m k) cost ≡ 0
   pub is : goal.cut h m k u c cost ≡ goal.cut_after k u c cost (cut_on h m u c cost)
 
 pub taken : (h : Shedder) (m : Rows) (k : List (List ℕ)) (u : unit.Unit) (c : Cause) (cost : List ℕ) → ltb 0 (goal.cut_number (goal.cut h m k u c cost).answer) ≡ false → Taken h m k u c cost
 unfolding goal.cut
 taken h m k u c cost f =
-    let n = goal.cut_asked h (length m.tags) (length m.units) (length m.uses) (length k) cost in
+    let n = goal.cut_asked h (sizes_of m k) cost in
     let r = chosen h m k n (goal.cut_after k u c cost) (goal.handed_back (goal.kept_by h m) u (goal.numbers cost)) (goal.kept_by h m) (eqb n 0) (goal.hands_back h.flow.rate c) refl f in
     record { asked = eqb-true n 0 r.0; is = r.1 }
 
-pub cut_costs : (h : Shedder) (i u s k : ℕ) (cost : List ℕ) → goal.cut_asked h i u s k cost ≡ 0 → goal.costs_held cost ≡ true
+pub cut_costs : (h : Shedder) (s : Sizes) (cost : List ℕ) → goal.cut_asked h s cost ≡ 0 → goal.costs_held cost ≡ true
 unfolding goal.cut_asked
-cut_costs h i u s k cost e =
+cut_costs h s cost e =
     let a = zero_yes (goal.head_whole h) _ 2 e in
-    let b = zero_yes (goal.memory_whole h i u s k) _ 3 a.1 in
+    let b = zero_yes (goal.memory_whole h s) _ 3 a.1 in
     (zero_yes (goal.costs_held cost) _ 4 b.1).0
 
 -- THE CUT
@@ -148,25 +150,25 @@ module _ (room : ℕ) (rate : List ℕ) (rates : goal.all_rates rate ≡ true) (
 
   cut_held : Held room m.rows h.tracked
   cut_held =
-      let r = cut_ready h (length m.rows.tags) (length m.rows.units) (length m.rows.uses) (length m.counted) cost took.asked in
+      let r = cut_ready h (sizes_of m.rows m.counted) cost took.asked in
       record { tags = omega (arith, r.tags_room, b.room_is); units = r.units_room ∙ b.room_is; uses = r.uses_room ∙ b.room_is; few = le_trans r.tracked_held (le_of_eq b.room_is); wide = b.wide }
 
   cut_bound : Bound room rate h m.rows st h.flow.at_ms
   cut_bound = record { tied = b; held = cut_held }
 
-  pub cut_after : Bound room rate (goal.cut h m.rows m.counted u c cost).head (goal.cut h m.rows m.counted u c cost).rows (model.step Name same shares room st h.flow.at_ms (cut_call room rate c u cost)) h.flow.at_ms
+  pub cut_after : Bound room rate (goal.cut h m.rows m.counted u c cost).head (goal.cut h m.rows m.counted u c cost).rows (model.step Name same shares room st h.flow.at_ms (cut_call room rate h c u cost)) h.flow.at_ms
   unfolding goal.noted
   cut_after =
       let s = cut_on h m.rows u c cost in
-      subst (λ (j : goal.Cut). Bound room rate j.head j.rows (model.step Name same shares room st h.flow.at_ms (cut_call room rate c u cost)) h.flow.at_ms) (sym took.is)
+      subst (λ (j : goal.Cut). Bound room rate j.head j.rows (model.step Name same shares room st h.flow.at_ms (cut_call room rate h c u cost)) h.flow.at_ms) (sym took.is)
       (judging.tallied_bound room rate s.head m.counted (sender.name_of u) (goal.index_of c) (get_or cost 0 0) s.rows _ h.flow.at_ms
       (on_bound room rate h m.rows st cut_bound u cost (ap goal.is_unbounded b.rate_is ∙ not_unbounded rate rates) c))
 
-  pub cut_tied : Tied room rate (goal.cut h m.rows m.counted u c cost).head (goal.cut h m.rows m.counted u c cost).rows (model.step Name same shares room st h.flow.at_ms (cut_call room rate c u cost)) h.flow.at_ms
+  pub cut_tied : Tied room rate (goal.cut h m.rows m.counted u c cost).head (goal.cut h m.rows m.counted u c cost).rows (model.step Name same shares room st h.flow.at_ms (cut_call room rate h c u cost)) h.flow.at_ms
   cut_tied = cut_after.tied
 
   pub cut_small : (d : ℕ) → d < dims → get_or cost d 0 ≤ 2 ^ 40
-  cut_small = small_costs cost (cut_costs h (length m.rows.tags) (length m.rows.units) (length m.rows.uses) (length m.counted) cost took.asked)
+  cut_small = small_costs cost (cut_costs h (sizes_of m.rows m.counted) cost took.asked)
 
   -- the record that it uses is the model's
   pub cut_key : judging.resolve room rate st u ≡ entry.lift room (calls.key (calls.state_of h m) u h.flow.at_ms)

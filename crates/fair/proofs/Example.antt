@@ -32,7 +32,7 @@ batch : ℕ → ℕ → Float → Batch
 batch a b want = record { stamp = 1000; cost = two a b; want = want; reserve = true }
 
 judge : ℕ → ℕ → Float → C
-judge a b want = Judge 7 (batch a b want) (both 10 1000) (λ r. false)
+judge a b want = Judge 7 (batch a b want) (both 10 1000) (λ i r. false) 0
 
 answer : ℕ → ℕ → Float → List C → Verdict
 answer a b want h = verdict ℕ eqb never 256 (two 10 1000) (two 0 0) 7 (batch a b want) (both 10 1000) h

@@ -21,7 +21,9 @@ use Rattle.verdict.specs.declared.Verdict.TheVariants as verdict
 use Rattle.sender.specs.declared.Unit as unit
 use Rattle.sender.specs.declared.Name as sender_name
 use Rattle.cut_sources.specs.Counted as counts
-use Rattle.store.specs.Store.{Rows, rows}
+use Rattle.store.specs.Store.{Rows, with_tags}
+use Rattle.store.specs.Held.{sizes_of}
+use Rattle.store.specs.declared.lent.Sizes.{Sizes}
 use Rattle.store.proofs.Places.{Same}
 use Rattle.std.proofs.lemmas.Bool.{and_parts}
 use Rattle.head.proofs.Tests.{zero_yes}
@@ -51,7 +53,7 @@ use Rattle.fair.proofs.Outcome.{batch_of, outcome_of}
 
 -- ---- what a judgement finds, from the real head and rows
 abbrev pub found_at : Shedder → goal.Entered → Use
-found_at h e = goal.used_at e.rows.units e.rows.uses h.overflow e.place.at
+found_at h e = goal.used_at e.rows h.overflow e.place.at
 
 abbrev pub fills : Shedder → List Float
 fills h = goal.fills h.level (goal.numbers h.flow.rate)
@@ -61,6 +63,10 @@ batch_at h u cost t e = batch_of h.flow.buckets (found_at h e) h.flow.at_ms t co
 
 abbrev outcome_at : Shedder → unit.Unit → List ℕ → ℕ → goal.Entered → Outcome
 outcome_at h u cost t e = outcome_of h.flow.buckets (found_at h e) h.flow.at_ms t cost (fills h) h.level (goal.rank_at (sender.hash_of u) e.place.at h.unit_room)
+
+-- how many records stand before the unit's if it is new: all
+abbrev pub new_place : Shedder → unit.Unit → ℕ
+new_place h u = h.tracked
 
 outcome_is : (h : Shedder) (u : unit.Unit) (cost : List ℕ) (t : ℕ) (e : goal.Entered) → goal.outcome_at h u (goal.numbers cost) (max t h.flow.at_ms) e ≡ outcome_at h u cost t e
 unfolding goal.outcome goal.numbers
@@ -79,8 +85,8 @@ module _ (room : ℕ) (rate : List ℕ) where
   abbrev pub seen : K → S → demand.State
   seen k st = model.seen Name same shares room k st
 
-  abbrev pub after : K → demand.State → S → S
-  after k t st = model.after Name same shares room k t st
+  abbrev pub after : ℕ → K → demand.State → S → S
+  after place k t st = model.after Name same shares room place k t st
 
   over_whole : (k : K) (x o : Use) → Whole x → Whole o → Whole (model.overflow_with Name same shares room k (present x) o)
   over_whole model.shared x o p q = p
@@ -91,22 +97,22 @@ module _ (room : ℕ) (rate : List ℕ) where
     so : viewed room st.bucket m h.tracked h.overflow ≡ st
     so = ap (λ (xs : List (view.R room)). record { bucket = st.bucket; rows = xs; overflow = h.overflow }) b.tied.rows_is ∙ ap (λ (x : Use). record { bucket = st.bucket; rows = st.rows; overflow = x }) b.tied.overflow_is
 
-    pub placed : (u : unit.Unit) (now : ℕ) → Placed room m h.tracked h.overflow (resolve st u) st.bucket u now (goal.entry m h.tracked h.unit_room u now)
+    pub placed : (u : unit.Unit) (now : ℕ) → Placed room m h.tracked h.overflow (new_place h u) (resolve st u) st.bucket u now (goal.entry m h.tracked h.unit_room u now)
     placed u now =
-        subst (λ (r : ℕ). Placed room m h.tracked h.overflow (resolve st u) st.bucket u now (goal.entry m h.tracked r u now)) (sym b.tied.room_is)
-        (subst (λ (z : S). Placed room m h.tracked h.overflow (resolve z u) st.bucket u now (goal.entry m h.tracked room u now)) so
+        subst (λ (r : ℕ). Placed room m h.tracked h.overflow (new_place h u) (resolve st u) st.bucket u now (goal.entry m h.tracked r u now)) (sym b.tied.room_is)
+        (subst (λ (z : S). Placed room m h.tracked h.overflow (new_place h u) (resolve z u) st.bucket u now (goal.entry m h.tracked room u now)) so
         (entry.entry_placed room st.bucket m h.tracked h.overflow b.tied.whole b.held u now))
 
     -- the use that is found is the model's
-    pub found-is : (u : unit.Unit) (now : ℕ) (e : goal.Entered) → Placed room m h.tracked h.overflow (resolve st u) st.bucket u now e
-        → goal.used_at e.rows.units e.rows.uses h.overflow e.place.at ≡ demand.found (seen (resolve st u) st).used now
+    pub found-is : (u : unit.Unit) (now : ℕ) (e : goal.Entered) → Placed room m h.tracked h.overflow (new_place h u) (resolve st u) st.bucket u now e
+        → goal.used_at e.rows h.overflow e.place.at ≡ demand.found (seen (resolve st u) st).used now
     found-is u now e p = p.used ∙ ap (λ (z : S). demand.found (model.look Name same shares room (resolve st u) z) now) so
 
-    pub headed_bound : (u : unit.Unit) (now : ℕ) (e : goal.Entered) → Placed room m h.tracked h.overflow (resolve st u) st.bucket u now e
+    pub headed_bound : (u : unit.Unit) (now : ℕ) (e : goal.Entered) → Placed room m h.tracked h.overflow (new_place h u) (resolve st u) st.bucket u now e
         → (f : Flow) (x : Use) (t : demand.State) → Whole x → present x ≡ t.used → f.rate ≡ rate → clk ≤ f.at_ms → length f.buckets ≡ dims → ((d : ℕ) → d < dims → bucket_at f.buckets d ≡ t.bucket d)
-        → Bound room rate (goal.headed h f (goal.put_back e.rows.units e.rows.uses h.overflow e.place.at x).overflow e.place.tracked)
-        (rows e.rows.tags (goal.put_back e.rows.units e.rows.uses h.overflow e.place.at x).units (goal.put_back e.rows.units e.rows.uses h.overflow e.place.at x).uses)
-        (after (resolve st u) t st) f.at_ms
+        → Bound room rate (goal.headed h f (goal.put_back e.rows h.overflow e.place.at x).overflow e.place.tracked)
+        (goal.put_back e.rows h.overflow e.place.at x).rows
+        (after (new_place h u) (resolve st u) t st) f.at_ms
     headed_bound u now e p f x t hx ux fr fc fl fb =
         let a = p.back x hx in
         let k = resolve st u in
@@ -117,8 +123,8 @@ module _ (room : ℕ) (rate : List ℕ) where
             clock_is = refl;
             long = fl;
             bucket_is = fb;
-            rows_is = a.list ∙ ap (λ (y : demand.Kept). model.rows_with Name same shares room k y (view.listed room m h.tracked)) ux
-                ∙ ap (λ (xs : List (view.R room)). model.rows_with Name same shares room k t.used xs) b.tied.rows_is;
+            rows_is = a.list ∙ ap (λ (y : demand.Kept). model.rows_with Name same shares room (new_place h u) k y (view.listed room m h.tracked)) ux
+                ∙ ap (λ (xs : List (view.R room)). model.rows_with Name same shares room (new_place h u) k t.used xs) b.tied.rows_is;
             overflow_is = a.over ∙ ap (λ (y : demand.Kept). model.overflow_with Name same shares room k y h.overflow) ux
                 ∙ ap (λ (o : Use). model.overflow_with Name same shares room k t.used o) b.tied.overflow_is;
             whole = subst Whole (sym a.over) (over_whole k x h.overflow hx b.tied.whole);
@@ -149,8 +155,8 @@ module _ (room : ℕ) (rate : List ℕ) where
         (found_at h e) (found-is h m st h.flow.at_ms b u now e (placed h m st h.flow.at_ms b u now))
 
     passing_bound : (cst : List Float) (o : Outcome) → o ≡ outcome_at h u cost t e
-        → Bound room rate (goal.passing h now cst e o (goal.put_back e.rows.units e.rows.uses h.overflow e.place.at o.used)).head
-        (goal.passing h now cst e o (goal.put_back e.rows.units e.rows.uses h.overflow e.place.at o.used)).rows (after k (does (seen k st) h.flow.at_ms deed) st) now
+        → Bound room rate (goal.passing h now cst e o (goal.put_back e.rows h.overflow e.place.at o.used)).head
+        (goal.passing h now cst e o (goal.put_back e.rows h.overflow e.place.at o.used)).rows (after (new_place h u) k (does (seen k st) h.flow.at_ms deed) st) now
     unfolding goal.flowed
     passing_bound cst o q =
         headed_bound h m st h.flow.at_ms b u now e (placed h m st h.flow.at_ms b u now) (goal.flowed h.flow o cst now) o.used (does (seen k st) h.flow.at_ms deed)
@@ -165,7 +171,7 @@ module _ (room : ℕ) (rate : List ℕ) where
     abbrev p : goal.Through
     p = goal.judged h m u (goal.numbers cost) now
 
-    pub judged_bound : Bound room rate p.head p.rows (after k (does (seen k st) h.flow.at_ms deed) st) now
+    pub judged_bound : Bound room rate p.head p.rows (after (new_place h u) k (does (seen k st) h.flow.at_ms deed) st) now
     unfolding goal.judged
     judged_bound = passing_bound (goal.numbers cost) (goal.outcome_at h u (goal.numbers cost) now e) (outcome_is h u cost t e)
 
@@ -196,26 +202,26 @@ module _ (room : ℕ) (rate : List ℕ) where
       }
 
   -- other tags behind those of the unit records leave it too
-  behind_same : (m : Rows) (ts : List ℕ) → room ≤ length m.tags → (j : ℕ) → j < room → Same (rows (take room m.tags ++ ts) m.units m.uses) j m j
+  behind_same : (m : Rows) (ts : List ℕ) → room ≤ length m.tags → (j : ℕ) → j < room → Same (with_tags m (take room m.tags ++ ts)) j m j
   unfolding Same
   behind_same m ts l j h =
       let front : j < length (take room m.tags) = omega (arith, length-take-le room m.tags l) in
       (get_or-append (take room m.tags) ts 0 j front ∙ get_or-take room m.tags j 0 h, refl, refl)
 
-  behind_bound : (h : Shedder) (m : Rows) (ts : List ℕ) (st : S) (clk : ℕ) → Bound room rate h m st clk → Bound room rate h (rows (take h.unit_room m.tags ++ ts) m.units m.uses) st clk
+  behind_bound : (h : Shedder) (m : Rows) (ts : List ℕ) (st : S) (clk : ℕ) → Bound room rate h m st clk → Bound room rate h (with_tags m (take h.unit_room m.tags ++ ts)) st clk
   unfolding Wide
   behind_bound h m ts st clk b =
       let t = b.tied in
       let a = b.held in
-      subst (λ (r : ℕ). Bound room rate h (rows (take r m.tags ++ ts) m.units m.uses) st clk) (sym t.room_is) (record {
+      subst (λ (r : ℕ). Bound room rate h (with_tags m (take r m.tags ++ ts)) st clk) (sym t.room_is) (record {
         tied = record {
           rate_is = t.rate_is;
           room_is = t.room_is;
           clock_is = t.clock_is;
           long = t.long;
           bucket_is = t.bucket_is;
-          rows_is = pass.listed_same room (rows (take room m.tags ++ ts) m.units m.uses) m h.tracked
-              (λ j l. pass.record_same room (rows (take room m.tags ++ ts) m.units m.uses) j m j (behind_same m ts a.tags j (omega (arith, a.few)))) ∙ t.rows_is;
+          rows_is = pass.listed_same room (with_tags m (take room m.tags ++ ts)) m h.tracked
+              (λ j l. pass.record_same room (with_tags m (take room m.tags ++ ts)) j m j (behind_same m ts a.tags j (omega (arith, a.few)))) ∙ t.rows_is;
           overflow_is = t.overflow_is;
           whole = t.whole;
           level_is = t.level_is;
@@ -229,7 +235,7 @@ module _ (room : ℕ) (rate : List ℕ) where
   tally_on h m k = goal.tally h m.tags k
 
   abbrev rows_then : Rows → goal.Tally → Rows
-  rows_then m t = rows t.tags m.units m.uses
+  rows_then m t = with_tags m t.tags
 
   pub tallied_bound : (h : Shedder) (k : List (List ℕ)) (n : sender_name.Name) (c r : ℕ) (m : Rows) (st : S) (clk : ℕ) → Bound room rate h m st clk
       → Bound room rate (goal.tallied (tally_on h m k) n c r).head (rows_then m (goal.tallied (tally_on h m k) n c r)) st clk
@@ -238,7 +244,7 @@ module _ (room : ℕ) (rate : List ℕ) where
       let own : List ℕ = goal.source_tags (tally_on h m k) in
       let s = counts.count own k h.counted n c in
       let ts = counts.pruned_tags s (counts.count_tags own k h.counted n) in
-      counted_bound h (counts.pruned s).count c r (rows (take h.unit_room m.tags ++ ts) m.units m.uses) st clk (behind_bound h m ts st clk b)
+      counted_bound h (counts.pruned s).count c r (with_tags m (take h.unit_room m.tags ++ ts)) st clk (behind_bound h m ts st clk b)
 
   verdict_bound : (h : Shedder) (k : List (List ℕ)) (n : sender_name.Name) (v : Verdict) (cost : List ℕ) (m : Rows) (st : S) (clk : ℕ) → Bound room rate h m st clk
       → Bound room rate (goal.count_verdict (tally_on h m k) n v cost).head (rows_then m (goal.count_verdict (tally_on h m k) n v cost)) st clk
@@ -262,7 +268,7 @@ module _ (room : ℕ) (rate : List ℕ) where
   head_then h m u cost now = (tally_then h m u cost now).head
 
   abbrev pub judge_call_at : Shedder → Memory → unit.Unit → List ℕ → ℕ → ℕ → goal.Entered → C
-  judge_call_at h m u cost t now e = model.Judge (name_of u) (batch_at h u cost t e) (fills h) (tied.came room rate (head_then h m u cost now) m.hist now)
+  judge_call_at h m u cost t now e = model.Judge (name_of u) (batch_at h u cost t e) (fills h) (tied.came room rate (head_then h m u cost now) m.hist now) (new_place h u)
 
   abbrev pub judge_call : Shedder → Memory → unit.Unit → List ℕ → ℕ → C
   judge_call h m u cost t = judge_call_at h m u cost t (max t h.flow.at_ms) (goal.entry m.rows h.tracked h.unit_room u (max t h.flow.at_ms))
@@ -298,7 +304,7 @@ not_unbounded rate e = go (goal.is_unbounded rate) refl
     go false f = f
 
 pub record Taken (h : Shedder) (m : Memory) (u : unit.Unit) (cost : List ℕ) (t : ℕ) : Type 0 where
-  pub asked : goal.judge_asked h (length m.rows.tags) (length m.rows.units) (length m.rows.uses) (length m.counted) cost t ≡ 0
+  pub asked : goal.judge_asked h (sizes_of m.rows m.counted) cost t ≡ 0
   pub is : goal.judge h m u cost t ≡ goal.bounded h m u cost t
 
 chosen : (h : Shedder) (m : Memory) (n : ℕ) (to : goal.Judged) (a b : Bool) → eqb n 0 ≡ a → b ≡ false
@@ -312,7 +318,7 @@ chosen h m n to false b q e f = absurd (omega (arith, ltb-false 0 _ f, number_so
 pub taken : (h : Shedder) (m : Memory) (u : unit.Unit) (cost : List ℕ) (t : ℕ) → goal.is_unbounded h.flow.rate ≡ false → calls.refused (calls.state_of h m) (calls.Judge u cost t) ≡ false → Taken h m u cost t
 unfolding goal.judge
 taken h m u cost t unb f =
-    let n = goal.judge_asked h (length m.rows.tags) (length m.rows.units) (length m.rows.uses) (length m.counted) cost t in
+    let n = goal.judge_asked h (sizes_of m.rows m.counted) cost t in
     let r = chosen h m n (goal.bounded h m u cost t) (eqb n 0) (goal.is_unbounded h.flow.rate) refl unb f in
     record { asked = eqb-true n 0 r.0; is = r.1 }
 
@@ -321,11 +327,11 @@ pub small_costs : (cost : List ℕ) → goal.costs_held cost ≡ true → (d : �
 unfolding goal.costs_held
 small_costs cost e d small = leb-true (get_or cost d 0) 1099511627776 (all-at (λ (d : ℕ). leb (get_or cost d 0) 1099511627776) dims d small e)
 
-pub judge_costs : (h : Shedder) (i u s k : ℕ) (cost : List ℕ) (t : ℕ) → goal.judge_asked h i u s k cost t ≡ 0 → goal.costs_held cost ≡ true
+pub judge_costs : (h : Shedder) (s : Sizes) (cost : List ℕ) (t : ℕ) → goal.judge_asked h s cost t ≡ 0 → goal.costs_held cost ≡ true
 unfolding goal.judge_asked
-judge_costs h i u s k cost t e =
+judge_costs h s cost t e =
     let a = zero_yes (goal.head_whole h) _ 2 e in
-    let b = zero_yes (goal.memory_whole h i u s k) _ 3 a.1 in
+    let b = zero_yes (goal.memory_whole h s) _ 3 a.1 in
     (zero_yes (goal.costs_held cost) _ 4 b.1).0
 
 -- THE JUDGEMENT
@@ -336,7 +342,7 @@ module _ (room : ℕ) (rate : List ℕ) (rates : goal.all_rates rate ≡ true) (
 
   judge_held : Held room m.rows h.tracked
   judge_held =
-      let r = asked_ready h (length m.rows.tags) (length m.rows.units) (length m.rows.uses) (length m.counted) cost t took.asked in
+      let r = (asked_ready h (sizes_of m.rows m.counted) cost t took.asked).cut in
       record { tags = omega (arith, r.tags_room, b.room_is); units = r.units_room ∙ b.room_is; uses = r.uses_room ∙ b.room_is; few = le_trans r.tracked_held (le_of_eq b.room_is); wide = b.wide }
 
   judge_bound : Bound room rate h m.rows st h.flow.at_ms
@@ -355,10 +361,10 @@ module _ (room : ℕ) (rate : List ℕ) (rates : goal.all_rates rate ≡ true) (
   judge_answer = ap (λ (j : goal.Judged). j.answer) took.is ∙ bounded_answer room rate h m st judge_bound u cost t
 
   pub judge_stamp : t < 2 ^ 53
-  judge_stamp = (asked_ready h (length m.rows.tags) (length m.rows.units) (length m.rows.uses) (length m.counted) cost t took.asked).stamp_held
+  judge_stamp = (asked_ready h (sizes_of m.rows m.counted) cost t took.asked).stamp_held
 
   pub judge_small : (d : ℕ) → d < dims → get_or cost d 0 ≤ 2 ^ 40
-  judge_small = small_costs cost (judge_costs h (length m.rows.tags) (length m.rows.units) (length m.rows.uses) (length m.counted) cost t took.asked)
+  judge_small = small_costs cost (judge_costs h (sizes_of m.rows m.counted) cost t took.asked)
 
   -- the record that it uses is the model's
   pub judge_key : resolve room rate st u ≡ entry.lift room (calls.key (calls.state_of h m) u (max t h.flow.at_ms))

@@ -9,6 +9,8 @@ use lib.Dec.{eqb, ltb}
 use lib.ListN.{length}
 use borrow.Author.Tests.{ltb-false, lt-ltb, le-ltb, le-leb, eq-eqb, ne_eqb, eqb-true}
 use Rattle.sender.specs.declared.Unit as unit
+use Rattle.store.specs.Held.{sizes_of}
+use Rattle.store.specs.declared.lent.Sizes.{Sizes}
 use Rattle.wants.specs.Wants as wants
 use Rattle.head.specs.declared.Shedder.{Shedder}
 use Rattle.std.proofs.lemmas.Bool.{and_parts}
@@ -76,20 +78,20 @@ head_yes h rate room size e rates f r p low fine =
     rooms_yes h.unit_room h.counted_room h.tracked h.counted (subst (λ (n : ℕ). Rooms n h.counted_room) (sym f) (subst (Rooms room) (sym fine.room) r)) (omega arith) (omega (arith, fine.room, fine.few)) in
     rw (a, s, t, q, or_right (goal.is_unbounded h.flow.rate))
 
-memory_yes : (h : Shedder) (i u s k : ℕ) → i ≡ u + k → u ≡ h.unit_room → s ≡ h.unit_room → k ≡ h.counted_room → goal.memory_whole h i u s k ≡ true
+memory_yes : (h : Shedder) (s : Sizes) → s.tags ≡ s.units + s.counted → s.units ≡ h.unit_room → s.uses ≡ h.unit_room → s.counted ≡ h.counted_room → goal.memory_whole h s ≡ true
 unfolding goal.memory_whole goal.tags_whole
-memory_yes h i u s k a b c d = rw (eq-eqb i (u + k) a, eq-eqb u h.unit_room b, eq-eqb s h.unit_room c, eq-eqb k h.counted_room d)
+memory_yes h s a b c d = rw (eq-eqb s.tags (s.units + s.counted) a, eq-eqb s.units h.unit_room b, eq-eqb s.uses h.unit_room c, eq-eqb s.counted h.counted_room d)
 
 -- ---- calls that pass the questions are not refused
-judge_asked_yes : (h : Shedder) (i u s k : ℕ) (cost : List ℕ) (t : ℕ) → goal.head_whole h ≡ true → goal.memory_whole h i u s k ≡ true → goal.costs_held cost ≡ true → goal.is_stamp t ≡ true → goal.judge_asked h i u s k cost t ≡ 0
+judge_asked_yes : (h : Shedder) (s : Sizes) (cost : List ℕ) (t : ℕ) → goal.head_whole h ≡ true → goal.memory_whole h s ≡ true → goal.costs_held cost ≡ true → goal.is_stamp t ≡ true → goal.judge_asked h s cost t ≡ 0
 unfolding goal.judge_asked
-judge_asked_yes h i u s k cost t a b c d = rw (a, b, c, d)
+judge_asked_yes h s cost t a b c d = rw (a, b, c, d)
 
-cut_asked_yes : (h : Shedder) (i u s k : ℕ) (cost : List ℕ) → goal.head_whole h ≡ true → goal.memory_whole h i u s k ≡ true → goal.costs_held cost ≡ true → goal.cut_asked h i u s k cost ≡ 0
+cut_asked_yes : (h : Shedder) (s : Sizes) (cost : List ℕ) → goal.head_whole h ≡ true → goal.memory_whole h s ≡ true → goal.costs_held cost ≡ true → goal.cut_asked h s cost ≡ 0
 unfolding goal.cut_asked
-cut_asked_yes h i u s k cost a b c = rw (a, b, c)
+cut_asked_yes h s cost a b c = rw (a, b, c)
 
-judge_open : (h : Shedder) (m : Memory) (u : unit.Unit) (cost : List ℕ) (t : ℕ) → goal.judge_asked h (length m.rows.tags) (length m.rows.units) (length m.rows.uses) (length m.counted) cost t ≡ 0 → goal.is_unbounded h.flow.rate ≡ false
+judge_open : (h : Shedder) (m : Memory) (u : unit.Unit) (cost : List ℕ) (t : ℕ) → goal.judge_asked h (sizes_of m.rows m.counted) cost t ≡ 0 → goal.is_unbounded h.flow.rate ≡ false
     → goal.judge h m u cost t ≡ goal.bounded h m u cost t
 unfolding goal.judge
 judge_open h m u cost t e f = rw (e, f)
@@ -102,7 +104,7 @@ cut_picked : (b : Bool) (x y : goal.Cut) → ltb 0 (goal.cut_number x.answer) �
 cut_picked true x y p q = p
 cut_picked false x y p q = q
 
-cut_open : (h : Shedder) (m : Memory) (u : unit.Unit) (c : Cause) (cost : List ℕ) → goal.cut_asked h (length m.rows.tags) (length m.rows.units) (length m.rows.uses) (length m.counted) cost ≡ 0 → calls.refused (calls.state_of h m) (Cut u c cost) ≡ false
+cut_open : (h : Shedder) (m : Memory) (u : unit.Unit) (c : Cause) (cost : List ℕ) → goal.cut_asked h (sizes_of m.rows m.counted) cost ≡ 0 → calls.refused (calls.state_of h m) (Cut u c cost) ≡ false
 unfolding goal.cut goal.noted goal.answer_number
 cut_open h m u c cost e = rw e
     (cut_picked (goal.hands_back h.flow.rate c) (goal.cut_after m.counted u c cost (goal.handed_back (goal.kept_by h m.rows) u (goal.numbers cost))) (goal.cut_after m.counted u c cost (goal.kept_by h m.rows)) refl refl)
@@ -171,48 +173,48 @@ module _ (room size : ℕ) (rate ceiling : List ℕ) (rates : goal.all_rates rat
         head_yes (calls.state first h).head rate room size t.rate_is rates t.room_is rooms s.held.few s.low s.lasts.fine
 
     memory_lasts : (h : List Call)
-        → goal.memory_whole (calls.state first h).head (length (calls.state first h).memory.rows.tags) (length (calls.state first h).memory.rows.units) (length (calls.state first h).memory.rows.uses) (length (calls.state first h).memory.counted) ≡ true
+        → goal.memory_whole (calls.state first h).head (sizes_of (calls.state first h).memory.rows (calls.state first h).memory.counted) ≡ true
     memory_lasts h =
         let t = (real.whole room rate ceiling rates first b h).tie in
         let s = all_steady h in
-        memory_yes (calls.state first h).head _ _ _ _ (omega (arith, s.span, s.held.units, s.lasts.long)) (s.held.units ∙ sym t.room_is) (s.held.uses ∙ sym t.room_is) (s.lasts.long ∙ sym s.lasts.fine.room)
+        memory_yes (calls.state first h).head _ (omega (arith, s.span, s.held.units, s.lasts.long)) (s.held.units ∙ sym t.room_is) (s.held.uses ∙ sym t.room_is) (s.lasts.long ∙ sym s.lasts.fine.room)
 
     pub lasting : Lasting first
     lasting = record {
       judge = λ h u cost t c d.
           let s = calls.state first h in
           let unb = ap goal.is_unbounded (real.whole room rate ceiling rates first b h).tie.rate_is ∙ judging.not_unbounded rate rates in
-          ap (λ (j : goal.Judged). ltb 0 (goal.judge_number j.answer)) (judge_open s.head s.memory u cost t (judge_asked_yes s.head _ _ _ _ cost t (head_lasts h) (memory_lasts h) c d) unb) ∙ bounded_taken s.head s.memory u cost t;
-      cut = λ h u c cost d. let s = calls.state first h in cut_open s.head s.memory u c cost (cut_asked_yes s.head _ _ _ _ cost (head_lasts h) (memory_lasts h) d);
+          ap (λ (j : goal.Judged). ltb 0 (goal.judge_number j.answer)) (judge_open s.head s.memory u cost t (judge_asked_yes s.head _ cost t (head_lasts h) (memory_lasts h) c d) unb) ∙ bounded_taken s.head s.memory u cost t;
+      cut = λ h u c cost d. let s = calls.state first h in cut_open s.head s.memory u c cost (cut_asked_yes s.head _ cost (head_lasts h) (memory_lasts h) d);
       head = head_lasts;
       memory = memory_lasts;
     }
 
 -- ---- from a start
 -- what question 2 shows
-pub record Sizes (i u s k : ℕ) : Type 0 where
-  pub tags : i ≡ u + k
-  pub uses : s ≡ u
-  pub rooms : Rooms u k
+pub record SizesWhole (s : Sizes) : Type 0 where
+  pub tags : s.tags ≡ s.units + s.counted
+  pub uses : s.uses ≡ s.units
+  pub rooms : Rooms s.units s.counted
 
-asked_sizes : (rate : List ℕ) (i u s k : ℕ) → goal.start_asked rate i u s k ≡ 0 → Sizes i u s k
+asked_sizes : (rate : List ℕ) (s : Sizes) → goal.start_asked rate s ≡ 0 → SizesWhole s
 unfolding goal.start_asked goal.sizes_whole goal.tags_whole
-asked_sizes rate i u s k e =
+asked_sizes rate s e =
     let a = zero_yes (goal.is_unbounded rate || goal.all_rates rate) _ 0 e in
-    let b = zero_yes (eqb i (u + k) && (eqb s u && goal.rooms_whole u k 0 0)) 0 1 a.1 in
-    let c = and_parts (eqb i (u + k)) _ b.0 in
-    let d = and_parts (eqb s u) _ c.1 in
-    record { tags = eqb-true i (u + k) c.0; uses = eqb-true s u d.0; rooms = rooms_of u k 0 0 d.1 }
+    let b = zero_yes (eqb s.tags (s.units + s.counted) && (eqb s.uses s.units && goal.rooms_whole s.units s.counted 0 0)) 0 1 a.1 in
+    let c = and_parts (eqb s.tags (s.units + s.counted)) _ b.0 in
+    let d = and_parts (eqb s.uses s.units) _ c.1 in
+    record { tags = eqb-true s.tags (s.units + s.counted) c.0; uses = eqb-true s.uses s.units d.0; rooms = rooms_of s.units s.counted 0 0 d.1 }
 
 started_asked : (n : ℕ) (h o : Shedder) (g k : wants.Hist) (a : Bool) → (cond a (goal.start_ends (Ok tt) o k) (goal.start_ends (refused_by n) h g)).answer ≡ Ok tt → a ≡ true
 started_asked n h o g k true e = refl
 started_asked n h o g k false e = absurd (let z : ◌≡◌ {A = ℕ} 0 1 = cc in omega arith)
 
-start_sizes : (was : Shedder) (m : Memory) (rate ceiling : List ℕ) → (calls.starts was m rate ceiling).answer ≡ Ok tt → Sizes (length m.rows.tags) (length m.rows.units) (length m.rows.uses) (length m.counted)
+start_sizes : (was : Shedder) (m : Memory) (rate ceiling : List ℕ) → (calls.starts was m rate ceiling).answer ≡ Ok tt → SizesWhole (sizes_of m.rows m.counted)
 unfolding goal.start
 start_sizes was m rate ceiling e =
-    let n = goal.start_asked rate (length m.rows.tags) (length m.rows.units) (length m.rows.uses) (length m.counted) in
-    asked_sizes rate _ _ _ _ (eqb-true n 0 (started_asked n was (goal.opening rate ceiling (length m.rows.units) (length m.counted)) m.hist wants.cleared (eqb n 0) e))
+    let n = goal.start_asked rate (sizes_of m.rows m.counted) in
+    asked_sizes rate _ (eqb-true n 0 (started_asked n was (goal.opening rate ceiling (length m.rows.units) (length m.counted)) m.hist wants.cleared (eqb n 0) e))
 
 opening_lasts : (rate ceiling : List ℕ) (room : ℕ) (k : List (List ℕ)) → 2 ≤ length k → steady.Lasts (length k) (goal.opening rate ceiling room (length k)) k 0
 unfolding goal.opening

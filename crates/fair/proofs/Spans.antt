@@ -14,13 +14,14 @@ use Rattle.sender.specs.declared.Unit as unit
 use Rattle.sender.specs.declared.Name.{Name}
 use Rattle.sender.specs.Sender as sender
 use Rattle.store.specs.Store as store
-use Rattle.store.specs.Store.{Rows, rows}
+use Rattle.store.specs.Store.{Rows, with_tags}
 use Rattle.store_retain.specs.Retain.{Kept, kept, freed, moved, is_stale, retain_one, retained}
 use Rattle.wants.specs.Wants.{Hist}
 use Rattle.cut_sources.specs.Counted as counts
 use Rattle.cut_sources.proofs.Tagged.{count_long, pruned_long}
 use Rattle.head.specs.declared.Shedder.{Shedder}
 use Rattle.store.specs.declared.Cause.{Cause}
+use Rattle.store_entry.specs.Entering.{back}
 use Rattle.fair.specs.Given as goal
 use Rattle.fair.specs.Given.{Memory, memory}
 
@@ -87,13 +88,21 @@ entry_span m tracked room u now =
     (cond_span (ltb (store.find m.tags m.units (sender.name_of u) tracked) tracked) _ _ (length m.tags) refl
     (cond_span (ltb tracked room) _ _ (length m.tags) (added_span m tracked (sender.name_of u) (flow.added now)) refl))
 
+put_span : (m : Rows) (o : Use) (i : ℕ) (u : Use) → length (goal.put_back m o i u).rows.tags ≡ length m.tags
+unfolding goal.put_back store.put
+put_span m o i u = go (ltb i (length m.units))
+  where
+    go : (b : Bool) → length (cond b (back o (store.put m i u)) (back u m)).rows.tags ≡ length m.tags
+    go true = refl
+    go false = refl
+
 judged_span : (h : Shedder) (m : Rows) (u : unit.Unit) (cost : List Float) (now : ℕ) → length (goal.judged h m u cost now).rows.tags ≡ length m.tags
 unfolding goal.judged
-judged_span h m u cost now = entry_span m h.tracked h.unit_room u now
+judged_span h m u cost now = put_span _ _ _ _ ∙ entry_span m h.tracked h.unit_room u now
 
 handed_span : (h : Shedder) (m : Rows) (u : unit.Unit) (cost : List Float) → length (goal.handed_back (goal.kept_by h m) u cost).rows.tags ≡ length m.tags
 unfolding goal.handed_back
-handed_span h m u cost = entry_span m h.tracked h.unit_room u h.flow.at_ms
+handed_span h m u cost = put_span _ _ _ _ ∙ entry_span m h.tracked h.unit_room u h.flow.at_ms
 
 -- ---- counting
 tallied_span : (h : Shedder) (i : List ℕ) (k : List (List ℕ)) (n : Name) (c r : ℕ) → length (goal.tallied (goal.tally h i k) n c r).tags ≡ length i
@@ -121,7 +130,7 @@ bounded_span h m u cost t =
     let now = max t h.flow.at_ms in
     let p = goal.judged h m.rows u (goal.numbers cost) now in
     let y = goal.count_verdict (goal.tally p.head p.rows.tags m.counted) (sender.name_of u) p.verdict cost in
-    scanned_span y.head (rows y.tags p.rows.units p.rows.uses) m.hist now
+    scanned_span y.head (with_tags p.rows y.tags) m.hist now
     ∙ counted_span p.head p.rows.tags m.counted (sender.name_of u) p.verdict cost ∙ judged_span h m.rows u (goal.numbers cost) now
 
 pub after_span : (s : goal.KeptBy) (k : List (List ℕ)) (u : unit.Unit) (c : Cause) (cost : List ℕ) → length (goal.cut_after k u c cost s).rows.tags ≡ length s.rows.tags

@@ -17,7 +17,7 @@ use Rattle.sender.specs.declared.Words.{Words}
 use Rattle.sender.specs.declared.Name.{Name}
 use Rattle.sender.specs.Sender as sender
 use Rattle.cut_sources.specs.Counted as counts
-use Rattle.store.specs.Store.{Rows, rows}
+use Rattle.store.specs.Store.{Rows, with_tags}
 use Rattle.cut_sources.specs.Counted.{Sources, sources}
 use Rattle.cut_sources.proofs.Pruning.{prune_none, prune_next, frees_so}
 use Rattle.wants.specs.Wants as wants
@@ -195,7 +195,7 @@ module _ (size : ℕ) where
       let p = goal.judged h m.rows u (goal.numbers cost) now in
       let t = goal.count_verdict (goal.tally p.head p.rows.tags m.counted) (sender.name_of u) p.verdict cost in
       let q = counted_fine p.head p.rows.tags m.counted (sender.name_of u) p.verdict cost now (judged_fine h m.rows u (goal.numbers cost) h.flow.at_ms now l b.fine) b.long in
-      record { fine = scanned_fine t.head (rows t.tags p.rows.units p.rows.uses) m.hist now q.fine; long = q.long }
+      record { fine = scanned_fine t.head (with_tags p.rows t.tags) m.hist now q.fine; long = q.long }
 
   pub noted_lasts : (h : Shedder) (i : List ℕ) (k : List (List ℕ)) (u : unit.Unit) (c : Cause) (cost : List ℕ) (clk : ℕ) → Lasts h k clk → Lasts (goal.noted (goal.tally h i k) (sender.name_of u) c cost).head (goal.noted (goal.tally h i k) (sender.name_of u) c cost).counted clk
   unfolding goal.noted

@@ -60,11 +60,11 @@ module _ (Name : Type 0) (same : Name → Name → Bool) (is : (u v : Name) → 
   abbrev Apart : List R → Type 0
   Apart rs = Distinct Name same shares room is self rs
 
-  abbrev leaves : K → (R → Bool) → List R → Bool
+  abbrev leaves : K → (ℕ → R → Bool) → List R → Bool
   leaves shared p rs = false
   leaves (own v) p rs = goes Name same shares room is self v p rs
 
-  abbrev stale : (R → Bool) → ℕ → R → Bool
+  abbrev stale : (ℕ → R → Bool) → ℕ → ℕ → R → Bool
   stale scanned now = shed.stale Name same shares room scanned now
 
   key_of : (r k : K) → same_key r k ≡ true → r ≡ k
@@ -78,84 +78,84 @@ module _ (Name : Type 0) (same : Name → Name → Bool) (is : (u v : Name) → 
   judged k s clk b fill = does (seen k s) clk (Here b fill)
 
   -- the record that is judged is there as it was left
-  own_look : (k : K) (s : S) (clk : ℕ) (b : Batch) (fill : List Float) (scanned : R → Bool) → Apart s.rows
-      → look k (shed.swept Name same shares room (stale scanned (max b.stamp clk)) (shed.after Name same shares room k (judged k s clk b fill) s)) ≡ (judged k s clk b fill).used
-  own_look shared s clk b fill scanned z = refl
-  own_look (own v) s clk b fill scanned z =
+  own_look : (k : K) (s : S) (clk : ℕ) (b : Batch) (fill : List Float) (scanned : ℕ → R → Bool) (place : ℕ) → Apart s.rows
+      → look k (shed.swept Name same shares room (stale scanned (max b.stamp clk)) (shed.after Name same shares room place k (judged k s clk b fill) s)) ≡ (judged k s clk b fill).used
+  own_look shared s clk b fill scanned place z = refl
+  own_look (own v) s clk b fill scanned place z =
       let now = max b.stamp clk in
       let ok = is_admitted (verdict_here (seen (own v) s) clk b fill) in
       let w = flow.tried (flow.fade_to (credited (seen (own v) s) clk b fill) now) (priced b.cost) in
       let x = settled ok w b.cost in
-      get_swept Name same shares room is self v (stale scanned now) (shed.put Name same shares room v x s.rows) (distinct_put Name same shares room is self v x s.rows z)
-      ∙ rw (stays Name same shares room is self v (stale scanned now) x s.rows (young Name same shares room is self scanned now x (omega (arith, settled_at ok w b.cost))), get-same Name same shares room is self v x s.rows)
+      get_swept Name same shares room is self v (stale scanned now) (shed.put Name same shares room place v x s.rows) (distinct_put Name same shares room is self place v x s.rows z)
+      ∙ rw (stays Name same shares room is self place v (stale scanned now) x s.rows (young Name same shares room is self scanned now x (omega (arith, settled_at ok w b.cost))), get-same Name same shares room is self place v x s.rows)
 
   -- another is as it was, or is dropped
-  other_look : (r k : K) (s : S) (clk : ℕ) (b : Batch) (fill : List Float) (scanned : R → Bool) → Apart s.rows → same_key r k ≡ false
-      → look r (shed.swept Name same shares room (stale scanned (max b.stamp clk)) (shed.after Name same shares room k (judged k s clk b fill) s))
-      ≡ demand.dropped (leaves r (stale scanned (max b.stamp clk)) (shed.rows_with Name same shares room k (judged k s clk b fill).used s.rows)) (look r s) (max b.stamp clk)
-  other_look shared shared s clk b fill scanned z e = absurd (true≢false e)
-  other_look shared (own v) s clk b fill scanned z e = refl
-  other_look (own u) shared s clk b fill scanned z e =
+  other_look : (r k : K) (s : S) (clk : ℕ) (b : Batch) (fill : List Float) (scanned : ℕ → R → Bool) (place : ℕ) → Apart s.rows → same_key r k ≡ false
+      → look r (shed.swept Name same shares room (stale scanned (max b.stamp clk)) (shed.after Name same shares room place k (judged k s clk b fill) s))
+      ≡ demand.dropped (leaves r (stale scanned (max b.stamp clk)) (shed.rows_with Name same shares room place k (judged k s clk b fill).used s.rows)) (look r s) (max b.stamp clk)
+  other_look shared shared s clk b fill scanned place z e = absurd (true≢false e)
+  other_look shared (own v) s clk b fill scanned place z e = refl
+  other_look (own u) shared s clk b fill scanned place z e =
       let now = max b.stamp clk in
       get_swept Name same shares room is self u (stale scanned now) s.rows z ∙ sym (goes_old Name same shares room is self u scanned now s.rows)
-  other_look (own u) (own v) s clk b fill scanned z e =
+  other_look (own u) (own v) s clk b fill scanned place z e =
       let now = max b.stamp clk in
       let ok = is_admitted (verdict_here (seen (own v) s) clk b fill) in
       let x = settled ok (flow.tried (flow.fade_to (credited (seen (own v) s) clk b fill) now) (priced b.cost)) b.cost in
-      let rs = shed.put Name same shares room v x s.rows in
-      get_swept Name same shares room is self u (stale scanned now) rs (distinct_put Name same shares room is self v x s.rows z) ∙ sym (goes_old Name same shares room is self u scanned now rs)
-      ∙ ap (λ (y : Kept). demand.dropped (goes Name same shares room is self u (stale scanned now) rs) y now) (get_other Name same shares room is self v u x s.rows e)
+      let rs = shed.put Name same shares room place v x s.rows in
+      get_swept Name same shares room is self u (stale scanned now) rs (distinct_put Name same shares room is self place v x s.rows z) ∙ sym (goes_old Name same shares room is self u scanned now rs)
+      ∙ ap (λ (y : Kept). demand.dropped (goes Name same shares room is self u (stale scanned now) rs) y now) (get_other Name same shares room is self place v u x s.rows e)
 
   -- ---- a call as the record r sees it
-  abbrev judge_deed : Bool → K → K → S → ℕ → Batch → List Float → (R → Bool) → Deed
-  judge_deed m r k s clk b fill scanned = cond m (Here b fill)
-      (There b (credit_holds (seen k s) clk b fill) (leaves r (stale scanned (max b.stamp clk)) (shed.rows_with Name same shares room k (judged k s clk b fill).used s.rows)))
+  abbrev judge_deed : Bool → K → K → S → ℕ → Batch → List Float → (ℕ → R → Bool) → ℕ → Deed
+  judge_deed m r k s clk b fill scanned place = cond m (Here b fill)
+      (There b (credit_holds (seen k s) clk b fill) (leaves r (stale scanned (max b.stamp clk)) (shed.rows_with Name same shares room place k (judged k s clk b fill).used s.rows)))
 
   abbrev deed : K → S → ℕ → C → Deed
-  deed r s clk (Judge u b fill scanned) = judge_deed (same_key r (resolve s u)) r (resolve s u) s clk b fill scanned
-  deed r s clk (Cut u c) = cond (same_key r (resolve s u)) (demand.Cut c) (CutThere c)
+  deed r s clk (Judge u b fill scanned place) = judge_deed (same_key r (resolve s u)) r (resolve s u) s clk b fill scanned place
+  deed r s clk (Cut u c place) = cond (same_key r (resolve s u)) (demand.Cut c) (CutThere c)
   deed r s clk Other = Idle
 
-  judge_follow : (m : Bool) (r k : K) (s : S) (clk : ℕ) (b : Batch) (fill : List Float) (scanned : R → Bool) → Apart s.rows → same_key r k ≡ m
-      → seen r (shed.swept Name same shares room (stale scanned (max b.stamp clk)) (shed.after Name same shares room k (judged k s clk b fill) s)) ≡ does (seen r s) clk (judge_deed m r k s clk b fill scanned)
-  judge_follow true r k s clk b fill scanned z e =
-      subst (λ (q : K). seen q (shed.swept Name same shares room (stale scanned (max b.stamp clk)) (shed.after Name same shares room k (judged k s clk b fill) s)) ≡ does (seen q s) clk (Here b fill)) (sym (key_of r k e))
-      (ap (λ (y : Kept). record { bucket = (judged k s clk b fill).bucket; used = y }) (own_look k s clk b fill scanned z))
-  judge_follow false r k s clk b fill scanned z e = ap (λ (y : Kept). record { bucket = (judged k s clk b fill).bucket; used = y }) (other_look r k s clk b fill scanned z e)
+  judge_follow : (m : Bool) (r k : K) (s : S) (clk : ℕ) (b : Batch) (fill : List Float) (scanned : ℕ → R → Bool) (place : ℕ) → Apart s.rows → same_key r k ≡ m
+      → seen r (shed.swept Name same shares room (stale scanned (max b.stamp clk)) (shed.after Name same shares room place k (judged k s clk b fill) s)) ≡ does (seen r s) clk (judge_deed m r k s clk b fill scanned place)
+  judge_follow true r k s clk b fill scanned place z e =
+      subst (λ (q : K). seen q (shed.swept Name same shares room (stale scanned (max b.stamp clk)) (shed.after Name same shares room place k (judged k s clk b fill) s)) ≡ does (seen q s) clk (Here b fill)) (sym (key_of r k e))
+      (ap (λ (y : Kept). record { bucket = (judged k s clk b fill).bucket; used = y }) (own_look k s clk b fill scanned place z))
+  judge_follow false r k s clk b fill scanned place z e = ap (λ (y : Kept). record { bucket = (judged k s clk b fill).bucket; used = y }) (other_look r k s clk b fill scanned place z e)
 
-  cut_look : (k : K) (s : S) (clk : ℕ) (c : ℕ → ℕ) → look k (shed.after Name same shares room k (does (seen k s) clk (demand.Cut c)) s) ≡ (does (seen k s) clk (demand.Cut c)).used
-  cut_look shared s clk c = refl
-  cut_look (own v) s clk c = get-same Name same shares room is self v (flow.handed_back (demand.found (look (own v) s) clk) (priced c)) s.rows
+  cut_look : (k : K) (s : S) (clk : ℕ) (c : ℕ → ℕ) (place : ℕ) → look k (shed.after Name same shares room place k (does (seen k s) clk (demand.Cut c)) s) ≡ (does (seen k s) clk (demand.Cut c)).used
+  cut_look shared s clk c place = refl
+  cut_look (own v) s clk c place = get-same Name same shares room is self place v (flow.handed_back (demand.found (look (own v) s) clk) (priced c)) s.rows
 
-  cut_other : (r k : K) (s : S) (clk : ℕ) (c : ℕ → ℕ) → same_key r k ≡ false → look r (shed.after Name same shares room k (does (seen k s) clk (demand.Cut c)) s) ≡ look r s
-  cut_other shared shared s clk c e = absurd (true≢false e)
-  cut_other shared (own v) s clk c e = refl
-  cut_other (own u) shared s clk c e = refl
-  cut_other (own u) (own v) s clk c e = get_other Name same shares room is self v u (flow.handed_back (demand.found (look (own v) s) clk) (priced c)) s.rows e
+  cut_other : (r k : K) (s : S) (clk : ℕ) (c : ℕ → ℕ) (place : ℕ) → same_key r k ≡ false → look r (shed.after Name same shares room place k (does (seen k s) clk (demand.Cut c)) s) ≡ look r s
+  cut_other shared shared s clk c place e = absurd (true≢false e)
+  cut_other shared (own v) s clk c place e = refl
+  cut_other (own u) shared s clk c place e = refl
+  cut_other (own u) (own v) s clk c place e = get_other Name same shares room is self place v u (flow.handed_back (demand.found (look (own v) s) clk) (priced c)) s.rows e
 
-  cut_follow : (m : Bool) (r k : K) (s : S) (clk : ℕ) (c : ℕ → ℕ) → same_key r k ≡ m
-      → seen r (shed.after Name same shares room k (does (seen k s) clk (demand.Cut c)) s) ≡ does (seen r s) clk (cond m (demand.Cut c) (CutThere c))
-  cut_follow true r k s clk c e =
-      subst (λ (q : K). seen q (shed.after Name same shares room k (does (seen k s) clk (demand.Cut c)) s) ≡ does (seen q s) clk (demand.Cut c)) (sym (key_of r k e))
-      (ap (λ (y : Kept). record { bucket = (does (seen k s) clk (demand.Cut c)).bucket; used = y }) (cut_look k s clk c))
-  cut_follow false r k s clk c e = ap (λ (y : Kept). record { bucket = (does (seen k s) clk (demand.Cut c)).bucket; used = y }) (cut_other r k s clk c e)
+  cut_follow : (m : Bool) (r k : K) (s : S) (clk : ℕ) (c : ℕ → ℕ) (place : ℕ) → same_key r k ≡ m
+      → seen r (shed.after Name same shares room place k (does (seen k s) clk (demand.Cut c)) s) ≡ does (seen r s) clk (cond m (demand.Cut c) (CutThere c))
+  cut_follow true r k s clk c place e =
+      subst (λ (q : K). seen q (shed.after Name same shares room place k (does (seen k s) clk (demand.Cut c)) s) ≡ does (seen q s) clk (demand.Cut c)) (sym (key_of r k e))
+      (ap (λ (y : Kept). record { bucket = (does (seen k s) clk (demand.Cut c)).bucket; used = y }) (cut_look k s clk c place))
+  cut_follow false r k s clk c place e = ap (λ (y : Kept). record { bucket = (does (seen k s) clk (demand.Cut c)).bucket; used = y }) (cut_other r k s clk c place e)
 
   follow : (r : K) (s : S) (clk : ℕ) (c : C) → Apart s.rows → seen r (shed.step Name same shares room s clk c) ≡ does (seen r s) clk (deed r s clk c)
-  follow r s clk (Judge u b fill scanned) z = judge_follow (same_key r (resolve s u)) r (resolve s u) s clk b fill scanned z refl
-  follow r s clk (Cut u c) z = cut_follow (same_key r (resolve s u)) r (resolve s u) s clk c refl
+  follow r s clk (Judge u b fill scanned place) z = judge_follow (same_key r (resolve s u)) r (resolve s u) s clk b fill scanned place z refl
+  follow r s clk (Cut u c place) z = cut_follow (same_key r (resolve s u)) r (resolve s u) s clk c place refl
   follow r s clk Other z = refl
 
   -- ---- no name twice
-  with_apart : (k : K) (x : Kept) (rs : List R) → Apart rs → Apart (shed.rows_with Name same shares room k x rs)
-  with_apart shared x rs z = z
-  with_apart (own u) absent rs z = z
-  with_apart (own u) (present x) rs z = distinct_put Name same shares room is self u x rs z
+  with_apart : (k : K) (place : ℕ) (x : Kept) (rs : List R) → Apart rs → Apart (shed.rows_with Name same shares room place k x rs)
+  with_apart shared place x rs z = z
+  with_apart (own u) place absent rs z = z
+  with_apart (own u) place (present x) rs z = distinct_put Name same shares room is self place u x rs z
 
   step_apart : (s : S) (clk : ℕ) (c : C) → Apart s.rows → Apart (shed.step Name same shares room s clk c).rows
-  step_apart s clk (Judge u b fill scanned) z =
-      distinct_swept Name same shares room is self (stale scanned (max b.stamp clk)) (shed.rows_with Name same shares room (resolve s u) (judged (resolve s u) s clk b fill).used s.rows)
-      (with_apart (resolve s u) (judged (resolve s u) s clk b fill).used s.rows z)
-  step_apart s clk (Cut u c) z = with_apart (resolve s u) (does (seen (resolve s u) s) clk (demand.Cut c)).used s.rows z
+  step_apart s clk (Judge u b fill scanned place) z =
+      distinct_swept Name same shares room is self (stale scanned (max b.stamp clk)) (shed.rows_with Name same shares room place (resolve s u) (judged (resolve s u) s clk b fill).used s.rows)
+      (with_apart (resolve s u) place (judged (resolve s u) s clk b fill).used s.rows z)
+  step_apart s clk (Cut u c place) z = with_apart (resolve s u) place (does (seen (resolve s u) s) clk (demand.Cut c)).used s.rows z
   step_apart s clk Other z = z
 
   -- ---- every history
@@ -185,12 +185,12 @@ module _ (Name : Type 0) (same : Name → Name → Bool) (is : (u v : Name) → 
 
       stamp_same : (c : C) (h : List C) → stamp c ≡ demand.stamp (see c h)
       unfolding see
-      stamp_same (Judge u b fill scanned) h = go (same_key r (resolve (store h) u))
+      stamp_same (Judge u b fill scanned place) h = go (same_key r (resolve (store h) u))
         where
-          go : (m : Bool) → b.stamp ≡ demand.stamp (judge_deed m r (resolve (store h) u) (store h) (clock stamp h) b fill scanned)
+          go : (m : Bool) → b.stamp ≡ demand.stamp (judge_deed m r (resolve (store h) u) (store h) (clock stamp h) b fill scanned place)
           go true = refl
           go false = refl
-      stamp_same (Cut u c) h = stamp_pick (same_key r (resolve (store h) u)) (demand.Cut c) (CutThere c) 0 refl refl
+      stamp_same (Cut u c place) h = stamp_pick (same_key r (resolve (store h) u)) (demand.Cut c) (CutThere c) 0 refl refl
       stamp_same Other h = refl
 
       clock_same : (h : List C) → clock stamp h ≡ clock demand.stamp (shown see h)
@@ -224,14 +224,14 @@ module _ (Name : Type 0) (same : Name → Name → Bool) (is : (u v : Name) → 
       module _ (d : ℕ) where
         admitted_same : (c : C) (h : List C) → shed.admitted Name same shares room rate ceiling d c h ≡ demand.admitted rate ceiling (is_shared r) d (see c h) (shown see h)
         unfolding see
-        admitted_same (Judge u b fill scanned) h = go (same_key r (resolve (store h) u)) refl
+        admitted_same (Judge u b fill scanned place) h = go (same_key r (resolve (store h) u)) refl
           where
             go : (m : Bool) → same_key r (resolve (store h) u) ≡ m
                 → cond (is_admitted (verdict_here (seen (resolve (store h) u) (store h)) (clock stamp h) b fill)) (b.cost d) 0
-                ≡ demand.admitted rate ceiling (is_shared r) d (judge_deed m r (resolve (store h) u) (store h) (clock stamp h) b fill scanned) (shown see h)
+                ≡ demand.admitted rate ceiling (is_shared r) d (judge_deed m r (resolve (store h) u) (store h) (clock stamp h) b fill scanned place) (shown see h)
             go true e = ap (λ (v : Verdict). cond (is_admitted v) (b.cost d) 0) (verdict_same h (resolve (store h) u) b fill (key_of r (resolve (store h) u) e))
             go false e = ap (λ (v : Verdict). cond (is_admitted v) (b.cost d) 0) (verdict_other h (resolve (store h) u) b fill)
-        admitted_same (Cut u c) h = go (same_key r (resolve (store h) u))
+        admitted_same (Cut u c place) h = go (same_key r (resolve (store h) u))
           where
             go : (m : Bool) → 0 ≡ demand.admitted rate ceiling (is_shared r) d (cond m (demand.Cut c) (CutThere c)) (shown see h)
             go true = refl
@@ -240,12 +240,12 @@ module _ (Name : Type 0) (same : Name → Name → Bool) (is : (u v : Name) → 
 
         handed_same : (c : C) (h : List C) → shed.handed Name same shares room d c h ≡ demand.handed d (see c h) (shown see h)
         unfolding see
-        handed_same (Judge u b fill scanned) h = go (same_key r (resolve (store h) u))
+        handed_same (Judge u b fill scanned place) h = go (same_key r (resolve (store h) u))
           where
-            go : (m : Bool) → 0 ≡ demand.handed d (judge_deed m r (resolve (store h) u) (store h) (clock stamp h) b fill scanned) (shown see h)
+            go : (m : Bool) → 0 ≡ demand.handed d (judge_deed m r (resolve (store h) u) (store h) (clock stamp h) b fill scanned place) (shown see h)
             go true = refl
             go false = refl
-        handed_same (Cut u c) h = go (same_key r (resolve (store h) u))
+        handed_same (Cut u c place) h = go (same_key r (resolve (store h) u))
           where
             go : (m : Bool) → c d ≡ demand.handed d (cond m (demand.Cut c) (CutThere c)) (shown see h)
             go true = refl
@@ -254,14 +254,14 @@ module _ (Name : Type 0) (same : Name → Name → Bool) (is : (u v : Name) → 
 
         admitted_on_same : (c : C) (h : List C) → shed.admitted_on Name same shares room rate ceiling r d c h ≡ demand.admitted_here rate ceiling (is_shared r) d (see c h) (shown see h)
         unfolding see
-        admitted_on_same (Judge u b fill scanned) h = go (same_key r (resolve (store h) u)) refl
+        admitted_on_same (Judge u b fill scanned place) h = go (same_key r (resolve (store h) u)) refl
           where
             go : (m : Bool) → same_key r (resolve (store h) u) ≡ m
                 → cond m (cond (is_admitted (verdict_here (seen (resolve (store h) u) (store h)) (clock stamp h) b fill)) (b.cost d) 0) 0
-                ≡ demand.admitted_here rate ceiling (is_shared r) d (judge_deed m r (resolve (store h) u) (store h) (clock stamp h) b fill scanned) (shown see h)
+                ≡ demand.admitted_here rate ceiling (is_shared r) d (judge_deed m r (resolve (store h) u) (store h) (clock stamp h) b fill scanned place) (shown see h)
             go true e = ap (λ (v : Verdict). cond (is_admitted v) (b.cost d) 0) (verdict_same h (resolve (store h) u) b fill (key_of r (resolve (store h) u) e))
             go false e = refl
-        admitted_on_same (Cut u c) h = go (same_key r (resolve (store h) u))
+        admitted_on_same (Cut u c place) h = go (same_key r (resolve (store h) u))
           where
             go : (m : Bool) → 0 ≡ demand.admitted_here rate ceiling (is_shared r) d (cond m (demand.Cut c) (CutThere c)) (shown see h)
             go true = refl
@@ -271,12 +271,12 @@ module _ (Name : Type 0) (same : Name → Name → Bool) (is : (u v : Name) → 
         -- what needs no state: over the deed that m picks
         handed_on_same : (c : C) (h : List C) → shed.handed_on Name same shares room rate ceiling r d c h ≡ demand.handed_here d (see c h) (shown see h)
         unfolding see
-        handed_on_same (Judge u b fill scanned) h = go (same_key r (resolve (store h) u))
+        handed_on_same (Judge u b fill scanned place) h = go (same_key r (resolve (store h) u))
           where
-            go : (m : Bool) → 0 ≡ demand.handed_here d (judge_deed m r (resolve (store h) u) (store h) (clock stamp h) b fill scanned) (shown see h)
+            go : (m : Bool) → 0 ≡ demand.handed_here d (judge_deed m r (resolve (store h) u) (store h) (clock stamp h) b fill scanned place) (shown see h)
             go true = refl
             go false = refl
-        handed_on_same (Cut u c) h = go (same_key r (resolve (store h) u))
+        handed_on_same (Cut u c place) h = go (same_key r (resolve (store h) u))
           where
             go : (m : Bool) → cond m (c d) 0 ≡ demand.handed_here d (cond m (demand.Cut c) (CutThere c)) (shown see h)
             go true = refl
@@ -285,12 +285,12 @@ module _ (Name : Type 0) (same : Name → Name → Bool) (is : (u v : Name) → 
 
         tried_on_same : (c : C) (h : List C) → shed.tried_on Name same shares room rate ceiling r d c h ≡ demand.tried_here d (see c h) (shown see h)
         unfolding see
-        tried_on_same (Judge u b fill scanned) h = go (same_key r (resolve (store h) u))
+        tried_on_same (Judge u b fill scanned place) h = go (same_key r (resolve (store h) u))
           where
-            go : (m : Bool) → cond m (b.cost d) 0 ≡ demand.tried_here d (judge_deed m r (resolve (store h) u) (store h) (clock stamp h) b fill scanned) (shown see h)
+            go : (m : Bool) → cond m (b.cost d) 0 ≡ demand.tried_here d (judge_deed m r (resolve (store h) u) (store h) (clock stamp h) b fill scanned place) (shown see h)
             go true = refl
             go false = refl
-        tried_on_same (Cut u c) h = go (same_key r (resolve (store h) u))
+        tried_on_same (Cut u c place) h = go (same_key r (resolve (store h) u))
           where
             go : (m : Bool) → 0 ≡ demand.tried_here d (cond m (demand.Cut c) (CutThere c)) (shown see h)
             go true = refl
@@ -299,12 +299,12 @@ module _ (Name : Type 0) (same : Name → Name → Bool) (is : (u v : Name) → 
 
         fill_on_same : (c : C) (h : List C) → shed.fill_on Name same shares room rate ceiling r d c h ≡ demand.fill_here d (see c h) (shown see h)
         unfolding see
-        fill_on_same (Judge u b fill scanned) h = go (same_key r (resolve (store h) u))
+        fill_on_same (Judge u b fill scanned place) h = go (same_key r (resolve (store h) u))
           where
-            go : (m : Bool) → cond m (units (at fill d)) 0 ≡ demand.fill_here d (judge_deed m r (resolve (store h) u) (store h) (clock stamp h) b fill scanned) (shown see h)
+            go : (m : Bool) → cond m (units (at fill d)) 0 ≡ demand.fill_here d (judge_deed m r (resolve (store h) u) (store h) (clock stamp h) b fill scanned place) (shown see h)
             go true = refl
             go false = refl
-        fill_on_same (Cut u c) h = go (same_key r (resolve (store h) u))
+        fill_on_same (Cut u c place) h = go (same_key r (resolve (store h) u))
           where
             go : (m : Bool) → 0 ≡ demand.fill_here d (cond m (demand.Cut c) (CutThere c)) (shown see h)
             go true = refl
@@ -313,12 +313,12 @@ module _ (Name : Type 0) (same : Name → Name → Bool) (is : (u v : Name) → 
 
       judged_on_same : (c : C) (h : List C) → shed.judged_on Name same shares room rate ceiling r c h ≡ demand.here (see c h) (shown see h)
       unfolding see
-      judged_on_same (Judge u b fill scanned) h = go (same_key r (resolve (store h) u))
+      judged_on_same (Judge u b fill scanned place) h = go (same_key r (resolve (store h) u))
         where
-          go : (m : Bool) → m ≡ demand.here (judge_deed m r (resolve (store h) u) (store h) (clock stamp h) b fill scanned) (shown see h)
+          go : (m : Bool) → m ≡ demand.here (judge_deed m r (resolve (store h) u) (store h) (clock stamp h) b fill scanned place) (shown see h)
           go true = refl
           go false = refl
-      judged_on_same (Cut u c) h = go (same_key r (resolve (store h) u))
+      judged_on_same (Cut u c place) h = go (same_key r (resolve (store h) u))
         where
           go : (m : Bool) → false ≡ demand.here (cond m (demand.Cut c) (CutThere c)) (shown see h)
           go true = refl
@@ -327,12 +327,12 @@ module _ (Name : Type 0) (same : Name → Name → Bool) (is : (u v : Name) → 
 
       lawful_same : (c : C) (h : List C) → shed.Lawful Name same shares room c → demand.Lawful (see c h)
       unfolding see
-      lawful_same (Judge u b fill scanned) h l = go (same_key r (resolve (store h) u))
+      lawful_same (Judge u b fill scanned place) h l = go (same_key r (resolve (store h) u))
         where
-          go : (m : Bool) → demand.Lawful (judge_deed m r (resolve (store h) u) (store h) (clock stamp h) b fill scanned)
+          go : (m : Bool) → demand.Lawful (judge_deed m r (resolve (store h) u) (store h) (clock stamp h) b fill scanned place)
           go true = l
           go false = (l.0, l.1)
-      lawful_same (Cut u c) h l = go (same_key r (resolve (store h) u))
+      lawful_same (Cut u c place) h l = go (same_key r (resolve (store h) u))
         where
           go : (m : Bool) → demand.Lawful (cond m (demand.Cut c) (CutThere c))
           go true = l
@@ -357,12 +357,12 @@ module _ (Name : Type 0) (same : Name → Name → Bool) (is : (u v : Name) → 
           true_of false t = absurd t
 
       -- a batch on this record
-      batch_same : (u : Name) (b : Batch) (fill : List Float) (scanned : R → Bool) (h : List C) → resolve (store h) u ≡ r
-          → shown see (Judge u b fill scanned ∷ h) ≡ Here b fill ∷ shown see h
+      batch_same : (u : Name) (b : Batch) (fill : List Float) (scanned : ℕ → R → Bool) (place : ℕ) (h : List C) → resolve (store h) u ≡ r
+          → shown see (Judge u b fill scanned place ∷ h) ≡ Here b fill ∷ shown see h
       unfolding shown see
-      batch_same u b fill scanned h e = ap (λ (x : Deed). x ∷ shown see h) (go (same_key r (resolve (store h) u)) (ap (same_key r) e ∙ self_key r))
+      batch_same u b fill scanned place h e = ap (λ (x : Deed). x ∷ shown see h) (go (same_key r (resolve (store h) u)) (ap (same_key r) e ∙ self_key r))
         where
-          go : (m : Bool) → m ≡ true → judge_deed m r (resolve (store h) u) (store h) (clock stamp h) b fill scanned ≡ Here b fill
+          go : (m : Bool) → m ≡ true → judge_deed m r (resolve (store h) u) (store h) (clock stamp h) b fill scanned place ≡ Here b fill
           go true q = refl
           go false q = absurd (true≢false (sym q))
 
@@ -413,21 +413,21 @@ module _ (Name : Type 0) (same : Name → Name → Bool) (is : (u v : Name) → 
           )
           ((demand_three rate ceiling rates (is_shared r)).share (shown (see r) h) (lawful_all r h l) d small k)
 
-      pub spared : (u : Name) (b : Batch) (fill : List Float) (scanned : R → Bool) (h : List C) → Each (shed.Lawful Name same shares room) h → shed.Lawful Name same shares room (Judge u b fill scanned) → T (Ieee.le b.want one)
-          → ((d : ℕ) → d < dims → (k : ℕ) → shed.Present Name same shares room rate ceiling (resolve (store h) u) k (Judge u b fill scanned ∷ h)
-          → (1000 * parts * sum (shed.tried_on Name same shares room rate ceiling (resolve (store h) u) d) (suc k) (Judge u b fill scanned ∷ h) + 1000 * suc k) * power 1074
-          ≤ parts * ((least_depth + shed.span Name same shares room (Judge u b fill scanned ∷ h) k) * lowest (shed.judged_on Name same shares room rate ceiling (resolve (store h) u)) (shed.fill_on Name same shares room rate ceiling (resolve (store h) u) d) k (Judge u b fill scanned ∷ h)))
+      pub spared : (u : Name) (b : Batch) (fill : List Float) (scanned : ℕ → R → Bool) (place : ℕ) (h : List C) → Each (shed.Lawful Name same shares room) h → shed.Lawful Name same shares room (Judge u b fill scanned place) → T (Ieee.le b.want one)
+          → ((d : ℕ) → d < dims → (k : ℕ) → shed.Present Name same shares room rate ceiling (resolve (store h) u) k (Judge u b fill scanned place ∷ h)
+          → (1000 * parts * sum (shed.tried_on Name same shares room rate ceiling (resolve (store h) u) d) (suc k) (Judge u b fill scanned place ∷ h) + 1000 * suc k) * power 1074
+          ≤ parts * ((least_depth + shed.span Name same shares room (Judge u b fill scanned place ∷ h) k) * lowest (shed.judged_on Name same shares room rate ceiling (resolve (store h) u)) (shed.fill_on Name same shares room rate ceiling (resolve (store h) u) d) k (Judge u b fill scanned place ∷ h)))
           → verdict_here (seen (resolve (store h) u) (store h)) (clock stamp h) b fill ≡ OverShare → ⊥
       unfolding Modest
-      spared u b fill scanned h l law want modest e =
+      spared u b fill scanned place h l law want modest e =
           let r = resolve (store h) u in
           (demand_three rate ceiling rates (is_shared r)).spared (shown (see r) h) (lawful_all r h l) b fill law want
-          (λ d small. subst (Modest r d) (batch_same r u b fill scanned h refl) (modest_same r d (Judge u b fill scanned ∷ h) (modest d small)))
+          (λ d small. subst (Modest r d) (batch_same r u b fill scanned place h refl) (modest_same r d (Judge u b fill scanned place ∷ h) (modest d small)))
           (sym (verdict_same r h r b fill refl) ∙ e)
 
 pub store_claim : Claim
 store_claim Name same is self shares room rate ceiling rates = record {
   relay = λ h l d small k. relay Name same is self shares room rate ceiling rates h l d small k;
   share = λ r h l d small k. share Name same is self shares room rate ceiling rates r h l d small k;
-  spared = λ u b fill scanned h l law want modest e. spared Name same is self shares room rate ceiling rates u b fill scanned h l law want modest e;
+  spared = λ u b fill scanned place h l law want modest e. spared Name same is self shares room rate ceiling rates u b fill scanned place h l law want modest e;
 }

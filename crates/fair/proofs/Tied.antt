@@ -24,6 +24,7 @@ use Rattle.head.specs.declared.Shedder.{Shedder}
 use Rattle.fair.specs.Given as goal
 use Rattle.fair.specs.Store as model
 use Rattle.fair.proofs.Level.{Level, level_is}
+use Rattle.fair.proofs.Places.{swept_same, all_stay}
 use Rattle.fair.proofs.View as view
 use Rattle.fair.proofs.View.{Name, same, shares}
 use Rattle.fair.proofs.Sweep as pass
@@ -49,14 +50,6 @@ module _ (room : ℕ) where
           → sweep q (cond b (sweep p xs) (x ∷ sweep p xs)) ≡ cond (b || q x) (sweep (λ (r : R'). p r || q r) xs) (x ∷ sweep (λ (r : R'). p r || q r) xs)
       go i true e = i
       go i false e = ap (λ (l : List R'). cond (q x) l (x ∷ l)) i
-
-  sweep_same : (p q : R' → Bool) → ((r : R') → p r ≡ q r) → (xs : List R') → sweep p xs ≡ sweep q xs
-  sweep_same p q f [] = refl
-  sweep_same p q f (x ∷ xs) = ap (λ (b : Bool). cond b (sweep p xs) (x ∷ sweep p xs)) (f x) ∙ ap (λ (l : List R'). cond (q x) l (x ∷ l)) (sweep_same p q f xs)
-
-  sweep_none : (xs : List R') → sweep (λ (r : R'). false) xs ≡ xs
-  sweep_none [] = refl
-  sweep_none (x ∷ xs) = ap (λ (l : List R'). x ∷ l) (sweep_none xs)
 
   -- ---- the tie
   pub record Tied (rate : List ℕ) (h : Shedder) (m : Rows) (st : entry.S room) (clk : ℕ) : Type 0 where
@@ -125,7 +118,7 @@ module _ (room : ℕ) where
         go : (c : Bool) → Bound rate (cond c (goal.visit (goal.scanning h m g)) (goal.scanning h m g)).head (cond c (goal.visit (goal.scanning h m g)) (goal.scanning h m g)).rows
             (swept (λ (r : R'). cond c (view.stale room h.scan.next h.scan.at_ms r) false) st) clk
         go true = visit_bound h m g st clk b
-        go false = re_rows h m st clk (sweep (λ (r : R'). false) st.rows) (sym (sweep_none st.rows)) b
+        go false = re_rows h m st clk (sweep (λ (r : R'). false) st.rows) (sym (all_stay Name same shares room st.rows)) b
 
     -- ---- the level
     levels_lawful : (gap trim : List Float) (d : ℕ) → d < dims → Level (at (goal.levels gap trim) d)
@@ -199,9 +192,9 @@ module _ (room : ℕ) where
     came_from b r = cond (leb 1 b.scan.remaining)
         (view.stale room b.scan.next b.scan.at_ms r || (cond (leb 1 (b.scan.remaining - 1)) (view.stale room (b.scan.next + 1) b.scan.at_ms r) false)) false
 
-    -- the rows that the scan of a judgement drops
-    abbrev pub came : Shedder → Hist → ℕ → R' → Bool
-    came h g clk r = came_from (goal.begun h g clk).head r
+    -- the rows that the scan of a judgement drops, wherever they stand
+    abbrev pub came : Shedder → Hist → ℕ → ℕ → R' → Bool
+    came h g clk place r = came_from (goal.begun h g clk).head r
 
     visits_bound : (h : Shedder) (m : Rows) (g : Hist) (st : entry.S room) (clk : ℕ) → Bound rate h m st clk
         → Bound rate (goal.again (goal.visit (goal.scanning h m g))).head (goal.again (goal.visit (goal.scanning h m g))).rows
@@ -231,11 +224,11 @@ module _ (room : ℕ) where
         go true false true false f g = refl
 
     pub scanned_bound : (h : Shedder) (m : Rows) (g : Hist) (st : entry.S room) (clk : ℕ) → Bound rate h m st clk
-        → Bound rate (goal.scanned (goal.scanning h m g) clk).head (goal.scanned (goal.scanning h m g) clk).rows (swept (model.stale Name same shares room (came h g clk) clk) st) clk
+        → Bound rate (goal.scanned (goal.scanning h m g) clk).head (goal.scanned (goal.scanning h m g) clk).rows (model.swept Name same shares room (model.stale Name same shares room (came h g clk) clk) st) clk
     unfolding goal.scanned
     scanned_bound h m g st clk b =
-        re_rows _ _ (swept (came h g clk) st) clk _
-        (sweep_same (came h g clk) (model.stale Name same shares room (came h g clk) clk) (came_old (goal.begun h g clk).head clk (begun_bound h m g st clk b).tied.scan_is) st.rows)
+        re_rows _ _ (model.swept Name same shares room (came h g clk) st) clk _
+        (swept_same Name same shares room (came h g clk) (model.stale Name same shares room (came h g clk) clk) st.rows (λ i r l. came_old (goal.begun h g clk).head clk (begun_bound h m g st clk b).tied.scan_is r))
         (go (goal.begun h g clk) (begun_bound h m g st clk b))
       where
         by : (s : goal.Started) → Bound rate s.head m st clk → (c : Bool)
@@ -243,7 +236,7 @@ module _ (room : ℕ) where
             (cond c (goal.ended_at (goal.again (goal.visit (goal.scanning s.head m s.hist)))) (goal.scanning s.head m s.hist)).rows
             (swept (λ (r : R'). cond c (view.stale room s.head.scan.next s.head.scan.at_ms r || (cond (leb 1 (s.head.scan.remaining - 1)) (view.stale room (s.head.scan.next + 1) s.head.scan.at_ms r) false)) false) st) clk
         by s b true = ended_bound (goal.again (goal.visit (goal.scanning s.head m s.hist))).head _ (goal.again (goal.visit (goal.scanning s.head m s.hist))).hist _ clk (visits_bound s.head m s.hist st clk b)
-        by s b false = re_rows s.head m st clk (sweep (λ (r : R'). false) st.rows) (sym (sweep_none st.rows)) b
+        by s b false = re_rows s.head m st clk (sweep (λ (r : R'). false) st.rows) (sym (all_stay Name same shares room st.rows)) b
 
         go : (s : goal.Started) → Bound rate s.head m st clk → Bound rate (goal.scanned_from m s).head (goal.scanned_from m s).rows (swept (came_from s.head) st) clk
         go s b = by s b (leb 1 s.head.scan.remaining)

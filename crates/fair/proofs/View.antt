@@ -16,6 +16,7 @@ use Rattle.store.specs.Store.{Rows, name_at}
 use Rattle.store.proofs.Names as stored
 use Rattle.std.proofs.lemmas.Bool.{and_parts}
 use Rattle.fair.specs.Store as model
+use Rattle.fair.proofs.Places.{anywhere}
 use Rattle.fair.specs.Calls.{same_name}
 
 -- ---- names
@@ -78,14 +79,15 @@ module _ (room : ℕ) where
   abbrev pub R : Type 0
   R = model.Row Name same shares room
 
+  -- without the rows of which p holds, wherever they stand
   abbrev pub sweep : (R → Bool) → List R → List R
-  sweep p rs = model.sweep Name same shares room p rs
+  sweep p rs = model.sweep Name same shares room (anywhere Name same shares room p) rs
 
   abbrev pub row : sender_name.Name → Use → R
   row w u = record { name = named w; used = u }
 
   unfoldable pub record_at : Rows → ℕ → R
-  record_at m i = row (name_at m.tags m.units i) (store.use_at m.units m.uses i)
+  record_at m i = row (name_at m.tags m.units i) (store.use_at m i)
 
   unfoldable pub listed : Rows → ℕ → List R
   listed m zero = []

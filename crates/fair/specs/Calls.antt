@@ -15,6 +15,7 @@ use Rattle.sender.specs.declared.Unit as unit
 use Rattle.sender.specs.declared.Name.{Name}
 use Rattle.sender.specs.Sender as sender
 use Rattle.store.specs.Store as store
+use Rattle.store.specs.Held.{sizes_of}
 use Rattle.head.specs.declared.Shedder.{Shedder}
 use Rattle.head.specs.declared.Refusal.{Refusal}
 use Rattle.store.specs.declared.Cause.{Cause}
@@ -60,7 +61,7 @@ state_of h m = record { head = h; memory = m }
 -- of a report: the number that its contract and that of the call beside it cite
 abbrev pub report_number : State → List ℕ → ℕ
 report_number s out =
-    report_asked s.head (length s.memory.rows.tags) (length s.memory.rows.units) (length s.memory.rows.uses) s.memory.counted (length out)
+    report_asked s.head s.memory.rows s.memory.counted (length out)
 
 abbrev pub judges : State → unit.Unit → List ℕ → ℕ → shed.Judged
 judges s u cost t = shed.judge s.head s.memory u cost t
@@ -166,7 +167,7 @@ clock_at s t = max t s.head.flow.at_ms
 
 -- the use that a judgement finds there
 abbrev pub used : State → unit.Unit → ℕ → Use
-used s u clock = shed.used_at (entry s u clock).rows.units (entry s u clock).rows.uses s.head.overflow (entry s u clock).place.at
+used s u clock = shed.used_at (entry s u clock).rows s.head.overflow (entry s u clock).place.at
 
 -- the fill in each dimension, and how many times the level the sender wants
 abbrev pub fills : State → List Float
@@ -284,11 +285,11 @@ pub record Lasting (first : State) : Type 0 where
   pub cut : (h : List Call) (u : unit.Unit) (c : Cause) (cost : List ℕ) → shed.costs_held cost ≡ true → refused (state first h) (Cut u c cost) ≡ false
   pub head : (h : List Call) → shed.head_whole (state first h).head ≡ true
   pub memory : (h : List Call)
-      → shed.memory_whole (state first h).head (length (state first h).memory.rows.tags) (length (state first h).memory.rows.units) (length (state first h).memory.rows.uses) (length (state first h).memory.counted) ≡ true
+      → shed.memory_whole (state first h).head (sizes_of (state first h).memory.rows (state first h).memory.counted) ≡ true
 
 -- what a start leaves: its head and the cleared histogram; the records are as they were lent
 abbrev pub starts : Shedder → Memory → List ℕ → List ℕ → shed.Beginning
-starts was m rate ceiling = shed.start was (length m.rows.tags) (length m.rows.units) (length m.rows.uses) (length m.counted) m.hist rate ceiling
+starts was m rate ceiling = shed.start was (sizes_of m.rows m.counted) m.hist rate ceiling
 
 abbrev pub left : Shedder → Memory → List ℕ → List ℕ → State
 left was m rate ceiling = state_of (starts was m rate ceiling).head (memory m.rows (starts was m rate ceiling).hist m.counted)

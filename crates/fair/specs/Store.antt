@@ -1,6 +1,6 @@
--- Demand 3 over a store: rows in the order of arrival, found by their sender, with room for so many; past that, overflow's record; and a sweep at a judgement. Definitions, and the statement.
+-- Demand 3 over a store: rows found by their sender, with room for so many, a new one at any place among them; past that, overflow's record; and a sweep at a judgement. Definitions, and the statement.
 -- What demand 2's definition computes of levels, wants, reserve and the scan's tables comes in with each call here, so the demand holds whatever that is.
-use Rattle.std.specs.Prelude.{ℕ, suc, ◌+◌, ◌-◌, ◌*◌, ◌^◌, ◌≤◌, ◌<◌, max, ◌≡◌, Bool, true, false, ◌&&◌, cond, List, [], ◌∷◌, T, ltb, length, Float}
+use Rattle.std.specs.Prelude.{ℕ, suc, ◌+◌, ◌-◌, ◌*◌, ◌^◌, ◌≤◌, ◌<◌, max, ◌≡◌, Bool, true, false, ◌&&◌, cond, List, [], ◌∷◌, T, ltb, length, insert, Float}
 use Rattle.ieee.specs.Doubles.{◌⊴◌, one}
 use Rattle.ieee.specs.Units.{power, units, Amount}
 use Rattle.flow.specs.declared.Bucket.{Bucket}
@@ -32,20 +32,20 @@ module _ (Name : Type 0) (same : Name → Name → Bool) (shares : Name → Bool
     pub overflow : Use
 
   pub data Call : Type 0 where
-    -- a judgement: the sender, the batch, the fill in each dimension, and the rows that the scan comes by
-    Judge : Name → Batch → List Float → (Row → Bool) → Call
-    -- a ReceiverCeiling cut: the sender and the cost in each dimension
-    Cut : Name → (ℕ → ℕ) → Call
+    -- a judgement: the sender, the batch, the fill in each dimension, the rows that the scan comes by, each told by its place in the list that the scan finds and by the row, and the sender's place: how many rows stand before its row if that is new
+    Judge : Name → Batch → List Float → (ℕ → Row → Bool) → ℕ → Call
+    -- a ReceiverCeiling cut: the sender, the cost in each dimension, and the sender's place
+    Cut : Name → (ℕ → ℕ) → ℕ → Call
     Other : Call
 
   abbrev pub stamp : Call → ℕ
-  stamp (Judge u b fill scanned) = b.stamp
-  stamp (Cut u c) = 0
+  stamp (Judge u b fill scanned place) = b.stamp
+  stamp (Cut u c place) = 0
   stamp Other = 0
 
   abbrev pub Lawful : Call → Type 0
-  Lawful (Judge u b fill scanned) = (b.stamp < 2 ^ 53) × Small b.cost × ((d : ℕ) → d < dims → Amount (at fill d) × (units (at fill d) ≤ power 1114))
-  Lawful (Cut u c) = Small c
+  Lawful (Judge u b fill scanned place) = (b.stamp < 2 ^ 53) × Small b.cost × ((d : ℕ) → d < dims → Amount (at fill d) × (units (at fill d) ≤ power 1114))
+  Lawful (Cut u c place) = Small c
   Lawful Other = Unit {0}
 
   -- ---- rows
@@ -53,14 +53,23 @@ module _ (Name : Type 0) (same : Name → Name → Bool) (shares : Name → Bool
   find u [] = absent
   find u (r ∷ rs) = cond (same u r.name) (present r.used) (find u rs)
 
-  -- in its row, or in a new one at the end
-  abbrev pub put : Name → Use → List Row → List Row
-  put u x [] = record { name = u; used = x } ∷ []
-  put u x (r ∷ rs) = cond (same u r.name) (record { name = r.name; used = x } ∷ rs) (r ∷ put u x rs)
+  -- the sender's row with the use, where it stands
+  abbrev pub replaced : Name → Use → List Row → List Row
+  replaced u x [] = []
+  replaced u x (r ∷ rs) = cond (same u r.name) (record { name = r.name; used = x } ∷ rs) (r ∷ replaced u x rs)
 
-  abbrev pub sweep : (Row → Bool) → List Row → List Row
+  -- in its row, or in a new one at the place; past the end, at the end
+  abbrev pub put : ℕ → Name → Use → List Row → List Row
+  put place u x rs = cond (demand.there (find u rs)) (replaced u x rs) (insert rs place (record { name = u; used = x }))
+
+  -- of the rows behind the first, their places counted from 0 again
+  abbrev pub behind : (ℕ → Row → Bool) → ℕ → Row → Bool
+  behind p i = p (suc i)
+
+  -- without the rows of which p holds at their place
+  abbrev pub sweep : (ℕ → Row → Bool) → List Row → List Row
   sweep p [] = []
-  sweep p (r ∷ rs) = cond (p r) (sweep p rs) (r ∷ sweep p rs)
+  sweep p (r ∷ rs) = cond (p 0 r) (sweep (behind p) rs) (r ∷ sweep (behind p) rs)
 
   -- ---- records
   abbrev pub look : Key → Store → Kept
@@ -74,10 +83,10 @@ module _ (Name : Type 0) (same : Name → Name → Bool) (shares : Name → Bool
   abbrev pub resolve : Store → Name → Key
   resolve s u = cond (shares u) shared (cond (demand.there (find u s.rows)) (own u) (cond (ltb (length s.rows) room) (own u) shared))
 
-  abbrev pub rows_with : Key → Kept → List Row → List Row
-  rows_with shared x rs = rs
-  rows_with (own u) absent rs = rs
-  rows_with (own u) (present x) rs = put u x rs
+  abbrev pub rows_with : ℕ → Key → Kept → List Row → List Row
+  rows_with place shared x rs = rs
+  rows_with place (own u) absent rs = rs
+  rows_with place (own u) (present x) rs = put place u x rs
 
   abbrev pub overflow_with : Key → Kept → Use → Use
   overflow_with shared absent o = o
@@ -86,19 +95,19 @@ module _ (Name : Type 0) (same : Name → Name → Bool) (shares : Name → Bool
 
   -- ---- steps
   -- the scan comes by, and the row is more than 8 s old
-  abbrev pub stale : (Row → Bool) → ℕ → Row → Bool
-  stale scanned clock r = scanned r && ltb (r.used.at_ms + stale_after) clock
+  abbrev pub stale : (ℕ → Row → Bool) → ℕ → ℕ → Row → Bool
+  stale scanned clock i r = scanned i r && ltb (r.used.at_ms + stale_after) clock
 
-  abbrev pub after : Key → State → Store → Store
-  after k t s = record { bucket = t.bucket; rows = rows_with k t.used s.rows; overflow = overflow_with k t.used s.overflow }
+  abbrev pub after : ℕ → Key → State → Store → Store
+  after place k t s = record { bucket = t.bucket; rows = rows_with place k t.used s.rows; overflow = overflow_with k t.used s.overflow }
 
-  abbrev pub swept : (Row → Bool) → Store → Store
+  abbrev pub swept : (ℕ → Row → Bool) → Store → Store
   swept p s = record { bucket = s.bucket; rows = sweep p s.rows; overflow = s.overflow }
 
   abbrev pub step : Store → ℕ → Call → Store
-  step s k (Judge u b fill scanned) =
-      swept (stale scanned (max b.stamp k)) (after (resolve s u) (does (seen (resolve s u) s) k (Here b fill)) s)
-  step s k (Cut u c) = after (resolve s u) (does (seen (resolve s u) s) k (demand.Cut c)) s
+  step s k (Judge u b fill scanned place) =
+      swept (stale scanned (max b.stamp k)) (after place (resolve s u) (does (seen (resolve s u) s) k (Here b fill)) s)
+  step s k (Cut u c place) = after place (resolve s u) (does (seen (resolve s u) s) k (demand.Cut c)) s
   step s k Other = s
 
   abbrev pub same_key : Key → Key → Bool
@@ -108,8 +117,8 @@ module _ (Name : Type 0) (same : Name → Name → Bool) (shares : Name → Bool
   same_key (own u) (own v) = same u v
 
   abbrev pub handed : ℕ → Call → List Call → ℕ
-  handed d (Judge u b fill scanned) h = 0
-  handed d (Cut u c) h = c d
+  handed d (Judge u b fill scanned place) h = 0
+  handed d (Cut u c place) h = c d
   handed d Other h = 0
 
   abbrev pub span : List Call → ℕ → ℕ
@@ -128,36 +137,36 @@ module _ (Name : Type 0) (same : Name → Name → Bool) (shares : Name → Bool
     verdict u b fill h = verdict_here (seen (key u h) (store h)) (clock stamp h) b fill
 
     abbrev pub admitted : ℕ → Call → List Call → ℕ
-    admitted d (Judge u b fill scanned) h = cond (is_admitted (verdict u b fill h)) (b.cost d) 0
-    admitted d (Cut u c) h = 0
+    admitted d (Judge u b fill scanned place) h = cond (is_admitted (verdict u b fill h)) (b.cost d) 0
+    admitted d (Cut u c place) h = 0
     admitted d Other h = 0
 
     -- ---- of one record
     module _ (r : Key) where
       abbrev pub admitted_on : ℕ → Call → List Call → ℕ
-      admitted_on d (Judge u b fill scanned) h = cond (same_key r (key u h)) (cond (is_admitted (verdict u b fill h)) (b.cost d) 0) 0
-      admitted_on d (Cut u c) h = 0
+      admitted_on d (Judge u b fill scanned place) h = cond (same_key r (key u h)) (cond (is_admitted (verdict u b fill h)) (b.cost d) 0) 0
+      admitted_on d (Cut u c place) h = 0
       admitted_on d Other h = 0
 
       abbrev pub handed_on : ℕ → Call → List Call → ℕ
-      handed_on d (Judge u b fill scanned) h = 0
-      handed_on d (Cut u c) h = cond (same_key r (key u h)) (c d) 0
+      handed_on d (Judge u b fill scanned place) h = 0
+      handed_on d (Cut u c place) h = cond (same_key r (key u h)) (c d) 0
       handed_on d Other h = 0
 
       abbrev pub tried_on : ℕ → Call → List Call → ℕ
-      tried_on d (Judge u b fill scanned) h = cond (same_key r (key u h)) (b.cost d) 0
-      tried_on d (Cut u c) h = 0
+      tried_on d (Judge u b fill scanned place) h = cond (same_key r (key u h)) (b.cost d) 0
+      tried_on d (Cut u c place) h = 0
       tried_on d Other h = 0
 
       -- the fill met at a judgement of the record
       abbrev pub fill_on : ℕ → Call → List Call → ℕ
-      fill_on d (Judge u b fill scanned) h = cond (same_key r (key u h)) (units (at fill d)) 0
-      fill_on d (Cut u c) h = 0
+      fill_on d (Judge u b fill scanned place) h = cond (same_key r (key u h)) (units (at fill d)) 0
+      fill_on d (Cut u c place) h = 0
       fill_on d Other h = 0
 
       abbrev pub judged_on : Call → List Call → Bool
-      judged_on (Judge u b fill scanned) h = same_key r (key u h)
-      judged_on (Cut u c) h = false
+      judged_on (Judge u b fill scanned place) h = same_key r (key u h)
+      judged_on (Cut u c place) h = false
       judged_on Other h = false
 
       -- the run of suc k calls begins with a judgement of the present record
@@ -173,10 +182,10 @@ module _ (Name : Type 0) (same : Name → Name → Bool) (shares : Name → Bool
       pub share : (r : Key) (h : List Call) → Each Lawful h → (d : ℕ) → d < dims → (k : ℕ)
           → 1000 * parts * sum (admitted_on r d) (suc k) h * power 1074 ≤ parts * ((most_depth + span h k) * highest (fill_on r d) (suc k) h) + (1000 * parts * sum (handed_on r d) (suc k) h + 1000 * suc k) * power 1074
       -- a sender whose want is within the level is not called over share, if in each dimension and every run from a judgement of its present record to this batch: tried on it ≤ (4 + T) * its lowest fill - n / 256
-      pub spared : (u : Name) (b : Batch) (fill : List Float) (scanned : Row → Bool) (h : List Call) → Each Lawful h → Lawful (Judge u b fill scanned) → T (b.want ⊴ one)
-          → ((d : ℕ) → d < dims → (k : ℕ) → Present (key u h) k (Judge u b fill scanned ∷ h)
-          → (1000 * parts * sum (tried_on (key u h) d) (suc k) (Judge u b fill scanned ∷ h) + 1000 * suc k) * power 1074
-          ≤ parts * ((least_depth + span (Judge u b fill scanned ∷ h) k) * lowest (judged_on (key u h)) (fill_on (key u h) d) k (Judge u b fill scanned ∷ h)))
+      pub spared : (u : Name) (b : Batch) (fill : List Float) (scanned : ℕ → Row → Bool) (place : ℕ) (h : List Call) → Each Lawful h → Lawful (Judge u b fill scanned place) → T (b.want ⊴ one)
+          → ((d : ℕ) → d < dims → (k : ℕ) → Present (key u h) k (Judge u b fill scanned place ∷ h)
+          → (1000 * parts * sum (tried_on (key u h) d) (suc k) (Judge u b fill scanned place ∷ h) + 1000 * suc k) * power 1074
+          ≤ parts * ((least_depth + span (Judge u b fill scanned place ∷ h) k) * lowest (judged_on (key u h)) (fill_on (key u h) d) k (Judge u b fill scanned place ∷ h)))
           → verdict u b fill h ≡ OverShare → ⊥
 
 -- for any names, any room, and any ceiling, at rates from 1 to 2 ^ 40
