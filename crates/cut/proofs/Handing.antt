@@ -1,31 +1,30 @@
 -- A hand-back from its parts: the code's results, each tied to its definition, make up the definition. Assumes nothing.
 use mathlib.Core.Path.{◌≡◌, ap, ◌∙◌}
-use Prim.Native.Nat.{ℕ}
 use mathlib.Core.List.{List}
 use lib.Ieee.{Float}
 use Rattle.flow.specs.Flow as flow
 use Rattle.flow.specs.declared.Bucket.{Bucket}
 use Rattle.flow.specs.declared.Use.{Use}
 use Rattle.sender.specs.declared.Unit.{Unit}
-use Rattle.store.specs.Store.{Rows, rows}
+use Rattle.store.specs.Store.{Rows}
 use Rattle.head.specs.declared.Flow.{Flow}
 use Rattle.head.specs.declared.Shedder.{Shedder}
 use Rattle.store_entry.specs.Entering.{Place, Entered, entered, entry, used_at, back, put_back, headed}
 use Rattle.cut.specs.Cutting.{lowered, flowed_back, kept_by, handed_with, handed_at, handed_back}
 
 pub handed_is : (h : Shedder) (m : Rows) (u : Unit) (cost : List Float)
-    (p : Place) (i1 : List ℕ) (u1 u2 : List (List ℕ)) (s1 s2 : List (List Float)) (x y sh : Use) (f : Flow)
-    → entered p (rows i1 u1 s1) ≡ entry m h.tracked h.unit_room u h.flow.at_ms
-    → x ≡ used_at u1 s1 h.overflow p.at
+    (p : Place) (m1 m2 : Rows) (x y sh : Use) (f : Flow)
+    → entered p m1 ≡ entry m h.tracked h.unit_room u h.flow.at_ms
+    → x ≡ used_at m1 h.overflow p.at
     → y ≡ flow.handed_back x cost
-    → back sh u2 s2 ≡ put_back u1 s1 h.overflow p.at y
+    → back sh m2 ≡ put_back m1 h.overflow p.at y
     → f ≡ flowed_back h.flow cost
-    → kept_by (headed h f sh p.tracked) (rows i1 u2 s2) ≡ handed_back (kept_by h m) u cost
+    → kept_by (headed h f sh p.tracked) m2 ≡ handed_back (kept_by h m) u cost
 unfolding handed_back
-handed_is h m u cost p i1 u1 u2 s1 s2 x y sh f eE eU eY eB eF =
-    let E : Entered = entered p (rows i1 u1 s1) in
-    ap (λ (f : Flow). kept_by (headed h f sh p.tracked) (rows i1 u2 s2)) eF
-    ∙ ap (handed_with h cost E) (eB ∙ ap (put_back u1 s1 h.overflow p.at) (eY ∙ ap (λ (x : Use). flow.handed_back x cost) eU))
+handed_is h m u cost p m1 m2 x y sh f eE eU eY eB eF =
+    let E : Entered = entered p m1 in
+    ap (λ (f : Flow). kept_by (headed h f sh p.tracked) m2) eF
+    ∙ ap (handed_with h cost E) (eB ∙ ap (put_back m1 h.overflow p.at) (eY ∙ ap (λ (x : Use). flow.handed_back x cost) eU))
     ∙ ap (handed_at h cost) eE
 
 -- the parts of a flow after a hand-back

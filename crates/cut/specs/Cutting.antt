@@ -1,5 +1,5 @@
 -- A cut made elsewhere: counted, and handed back where it was for the receiver's ceiling. No refill, fade, clock or scan. Definitions only.
-use Rattle.std.specs.Prelude.{ℕ, Bool, false, cond, List, eqb, length, get_or, Float, ⊤, Result, Ok}
+use Rattle.std.specs.Prelude.{ℕ, Bool, false, cond, List, eqb, get_or, Float, ⊤, Result, Ok}
 use Rattle.ieee.specs.Doubles.{◌⊖◌, nothing}
 use Rattle.ieee.specs.Extremes.{most}
 use Rattle.flow.specs.Flow as flow
@@ -7,7 +7,8 @@ use Rattle.flow.specs.Flow.{at, upto, zeros, dims}
 use Rattle.sender.specs.declared.Unit as unit
 use Rattle.sender.specs.declared.Name.{Name}
 use Rattle.sender.specs.Sender as sender
-use Rattle.store.specs.Store.{Rows, rows}
+use Rattle.store.specs.Store.{Rows, with_tags}
+use Rattle.store.specs.Held.{sizes_of}
 use Rattle.head.specs.declared.Flow.{Flow}
 use Rattle.head.specs.declared.Shedder.{Shedder}
 use Rattle.store.specs.declared.Cause.{Cause}
@@ -40,11 +41,11 @@ abbrev pub kept_by : Shedder → Rows → KeptBy
 kept_by h m = record { head = h; rows = m }
 
 abbrev pub handed_with : Shedder → List Float → Entered → Back → KeptBy
-handed_with h cost e b = kept_by (headed h (flowed_back h.flow cost) b.overflow e.place.tracked) (rows e.rows.tags b.units b.uses)
+handed_with h cost e b = kept_by (headed h (flowed_back h.flow cost) b.overflow e.place.tracked) b.rows
 
 abbrev pub handed_at : Shedder → List Float → Entered → KeptBy
 handed_at h cost e =
-    handed_with h cost e (put_back e.rows.units e.rows.uses h.overflow e.place.at (flow.handed_back (used_at e.rows.units e.rows.uses h.overflow e.place.at) cost))
+    handed_with h cost e (put_back e.rows h.overflow e.place.at (flow.handed_back (used_at e.rows h.overflow e.place.at) cost))
 
 -- all of a batch is handed back: tokens, attempted and credit of the record that the cut uses, a new one stamped with the clock
 unfoldable pub handed_back : KeptBy → unit.Unit → List Float → KeptBy
@@ -81,7 +82,7 @@ unfoldable pub noted : Tally → Name → Cause → List ℕ → Noted
 noted t name c cost = noted_as (tallied t name (index_of c) (get_or cost 0 0))
 
 abbrev pub cut_noted : Rows → Noted → Cut
-cut_noted m n = cut_ends n.answer n.head (rows n.tags m.units m.uses) n.counted
+cut_noted m n = cut_ends n.answer n.head (with_tags m n.tags) n.counted
 
 abbrev pub cut_after : List (List ℕ) → unit.Unit → Cause → List ℕ → KeptBy → Cut
 cut_after k u c cost s = cut_noted s.rows (noted (tally s.head s.rows.tags k) (sender.name_of u) c cost)
@@ -89,6 +90,6 @@ cut_after k u c cost s = cut_noted s.rows (noted (tally s.head s.rows.tags k) (s
 -- THE CUT: the first question answered no gives its number and nothing changes
 unfoldable pub cut : Shedder → Rows → List (List ℕ) → unit.Unit → Cause → List ℕ → Cut
 cut h m k u c cost =
-    cond (eqb (cut_asked h (length m.tags) (length m.units) (length m.uses) (length k) cost) 0)
+    cond (eqb (cut_asked h (sizes_of m k) cost) 0)
     (cond (hands_back h.flow.rate c) (cut_after k u c cost (handed_back (kept_by h m) u (flow.numbers cost))) (cut_after k u c cost (kept_by h m)))
-    (cut_ends (refused (cut_asked h (length m.tags) (length m.units) (length m.uses) (length k) cost)) h m k)
+    (cut_ends (refused (cut_asked h (sizes_of m k) cost)) h m k)

@@ -2,7 +2,7 @@
 #![tactic(auto)]
 
 ghost use Rattle.std.specs.Prelude.{◌≡◌, ◌<◌, ◌≤◌, ◌+◌, length};
-ghost use Rattle.store.specs.Held.{held, SameSlices, lent_rows, lent_sizes, of_sizes, SameLent};
+ghost use Rattle.store.specs.Held.{held, Room, SameSlices, lent_rows, lent_sizes, SameLent};
 ghost use Rattle.head.specs.Answers as answers;
 ghost use Rattle.head.specs.Questions as asked;
 ghost use Rattle.head.specs.Bits.{SameButNanBits};
@@ -11,7 +11,7 @@ ghost use Rattle.cut.specs.Cutting as cutting;
 
 use flow::DIMS;
 use head::{Cause, Flow, Refusal, Shedder};
-use sender::{Name, Named, Unit};
+use sender::{Named, Unit};
 use store::{Lent, Records};
 
 // What a cut answers, and the head after it. As head's `Starting`: each definition speaks of its own call's answer by name.
@@ -52,9 +52,7 @@ fn flowed_back(f: Flow, cost: [f64; DIMS]) -> Flow
 
 // All of a batch is handed back.
 fn handed_back(head: Shedder, records: &mut Records<'_>, named: Named, cost: [f64; DIMS]) -> Shedder
-    requires unit_room_in_bounds { head.unit_room ≤ length records.old.tags.now }
-    requires units_len { length records.old.units.now ≡ head.unit_room }
-    requires uses_len { length records.old.uses.now ≡ head.unit_room }
+    requires records_room { Room records.old head.unit_room }
     requires tracked_bound { head.tracked ≤ head.unit_room }
     ensures uses_after { cutting.kept_by result (held records.new)
         ≡ cutting.handed_back (cutting.kept_by head (held records.old)) named.unit cost }
@@ -76,17 +74,23 @@ fn handed_back(head: Shedder, records: &mut Records<'_>, named: Named, cost: [f6
 }
 
 // The cut is counted, and is then done.
-fn noted(head: Shedder, lent: &mut Lent<'_>, name: Name, cause: Cause, cost: [u64; DIMS]) -> Cutting
+fn noted(
+    head: Shedder,
+    lent: &mut Lent<'_>,
+    named: Named,
+    cause: Cause,
+    cost: [u64; DIMS],
+) -> Cutting
     requires counted_in_bounds { head.unit_room + head.counted < length lent.old.tags.now }
     requires counted_in_bounds_2 { head.counted < length lent.old.counted.now }
     ensures counted_after { cutting.noting result lent.new.tags.now lent.new.counted.now
-        ≡ cutting.noted (counting.tally head lent.old.tags.now lent.old.counted.now) name cause cost }
+        ≡ cutting.noted (counting.tally head lent.old.tags.now lent.old.counted.now) named.name cause cost }
     ensures units_after { lent.new.units.now ≡ lent.old.units.now }
     ensures uses_after { lent.new.uses.now ≡ lent.old.uses.now }
     ensures answer_value { answers.cut_number result.answer ≡ 0 }
     ensures slices { SameLent lent.old lent.new }
 {
-    let t = cut_counts::tallied(head, lent, name, cause, cost[0]);
+    let t = cut_counts::tallied(head, lent, named, cause, cost[0]);
     Cutting {
         answer: Ok(()),
         head: t,
@@ -105,7 +109,7 @@ pub fn cut(
         (cutting.cutting result (lent_rows lent.new) lent.new.counted.now)
         (cutting.cut head (lent_rows lent.old) lent.old.counted.now unit cause cost) }
     ensures answer_value { answers.cut_number result.answer
-        ≡ of_sizes (asked.cut_asked head) (lent_sizes lent.old) cost }
+        ≡ asked.cut_asked head (lent_sizes lent.old) cost }
     ensures slices { SameLent lent.old lent.new }
 {
     if let Err(refusal) = head::cut_asked(head, lent.sizes(), cost) {
@@ -123,7 +127,7 @@ pub fn cut(
             uses: &mut *lent.uses,
         };
         let h = handed_back(head, &mut records, named, flow::numbers(cost));
-        return noted(h, lent, named.name, cause, cost);
+        return noted(h, lent, named, cause, cost);
     }
-    noted(head, lent, named.name, cause, cost)
+    noted(head, lent, named, cause, cost)
 }

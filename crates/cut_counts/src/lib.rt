@@ -11,7 +11,7 @@ ghost use Rattle.cut_counts.specs.Counting as counting;
 use cut_sources::Sources;
 use flow::DIMS;
 use head::Shedder;
-use sender::Name;
+use sender::Named;
 use store::{Cause, Lent, SourceRow};
 use verdict::Verdict;
 
@@ -46,31 +46,31 @@ fn listed(
     tags: &mut [u16],
     counted: &mut [SourceRow],
     had: usize,
-    name: Name,
+    named: Named,
     cause: Cause,
 ) -> usize
     requires had_in_bounds { had < length tags.old }
     requires had_in_bounds_2 { had < length counted.old }
-    ensures counted_after { counts.sources result counted.new ≡ counts.pruned (counts.count tags.old counted.old had name (index_of cause)) }
+    ensures counted_after { counts.sources result counted.new ≡ counts.pruned (counts.count tags.old counted.old had named.name (index_of cause)) }
     ensures tags_after { tags.new
-        ≡ counts.pruned_tags (counts.count tags.old counted.old had name (index_of cause)) (counts.count_tags tags.old counted.old had name) }
+        ≡ counts.pruned_tags (counts.count tags.old counted.old had named.name (index_of cause)) (counts.count_tags tags.old counted.old had named.name) }
 {
     let mut sources = Sources { tags, counted };
-    let n = sources.count(had, name, cause);
+    let n = sources.count(had, named, cause);
     sources.pruned(n)
 }
 
 // The same where the tags of the sources stand behind those of the unit records. The head stays outside, since it would be copied.
-fn sourced(lent: &mut Lent<'_>, room: usize, had: usize, name: Name, cause: Cause) -> usize
+fn sourced(lent: &mut Lent<'_>, room: usize, had: usize, named: Named, cause: Cause) -> usize
     requires had_in_bounds { room + had < length lent.old.tags.now }
     requires had_in_bounds_2 { had < length lent.old.counted.now }
     ensures counted_after { counting.sources result lent.new.tags.now lent.new.counted.now
-        ≡ counting.sourced room lent.old.tags.now lent.old.counted.now had name (index_of cause) }
+        ≡ counting.sourced room lent.old.tags.now lent.old.counted.now had named.name (index_of cause) }
     ensures units_after { lent.new.units.now ≡ lent.old.units.now }
     ensures uses_after { lent.new.uses.now ≡ lent.old.uses.now }
     ensures slices { SameLent lent.old lent.new }
 {
-    listed(&mut lent.tags[room..], lent.counted, had, name, cause)
+    listed(&mut lent.tags[room..], lent.counted, had, named, cause)
 }
 
 // A cut is counted: in the head under its cause, among the sources under the unit named. It is inlined, so that an admission copies
@@ -79,21 +79,21 @@ fn sourced(lent: &mut Lent<'_>, room: usize, had: usize, name: Name, cause: Caus
 pub fn tallied(
     h: Shedder,
     lent: &mut Lent<'_>,
-    name: Name,
+    named: Named,
     cause: Cause,
     receptions: u64,
 ) -> Shedder
     requires counted_in_bounds { h.unit_room + h.counted < length lent.old.tags.now }
     requires counted_in_bounds_2 { h.counted < length lent.old.counted.now }
     ensures counted_after { counting.tally result lent.new.tags.now lent.new.counted.now
-        ≡ counting.tallied (counting.tally h lent.old.tags.now lent.old.counted.now) name (index_of cause) receptions }
+        ≡ counting.tallied (counting.tally h lent.old.tags.now lent.old.counted.now) named.name (index_of cause) receptions }
     ensures tracked_value { result.tracked ≡ h.tracked }
     ensures scan_value { result.scan ≡ h.scan }
     ensures units_after { lent.new.units.now ≡ lent.old.units.now }
     ensures uses_after { lent.new.uses.now ≡ lent.old.uses.now }
     ensures slices { SameLent lent.old lent.new }
 {
-    let n = sourced(lent, h.unit_room, h.counted, name, cause);
+    let n = sourced(lent, h.unit_room, h.counted, named, cause);
     added(h, n, cause, receptions)
 }
 
@@ -101,14 +101,14 @@ pub fn tallied(
 pub fn count_verdict(
     h: Shedder,
     lent: &mut Lent<'_>,
-    name: Name,
+    named: Named,
     verdict: Verdict,
     cost: [u64; DIMS],
 ) -> Shedder
     requires counted_in_bounds { h.unit_room + h.counted < length lent.old.tags.now }
     requires counted_in_bounds_2 { h.counted < length lent.old.counted.now }
     ensures counted_after { counting.tally result lent.new.tags.now lent.new.counted.now
-        ≡ counting.count_verdict (counting.tally h lent.old.tags.now lent.old.counted.now) name verdict cost }
+        ≡ counting.count_verdict (counting.tally h lent.old.tags.now lent.old.counted.now) named.name verdict cost }
     ensures tracked_value { result.tracked ≡ h.tracked }
     ensures scan_value { result.scan ≡ h.scan }
     ensures units_after { lent.new.units.now ≡ lent.old.units.now }
@@ -118,5 +118,5 @@ pub fn count_verdict(
     let Some(cause) = cause_of(verdict) else {
         return h;
     };
-    tallied(h, lent, name, cause, cost[0])
+    tallied(h, lent, named, cause, cost[0])
 }

@@ -1,22 +1,18 @@
 -- The rows of counted sources: found, counted, and the least counted left out. Definitions only.
-use Rattle.std.specs.Prelude.{ℕ, zero, suc, ◌+◌, ◌-◌, ◌/◌, ◌%◌, ◌^◌, Bool, cond, ◌&&◌, List, [], ◌∷◌, ◌++◌, map, length, take, drop, replicate, ◌==◌, nat_lt, slice_index, slice_index_or, slice_set}
+use Rattle.std.specs.Prelude.{ℕ, zero, suc, ◌+◌, ◌-◌, ◌/◌, ◌%◌, ◌^◌, Bool, cond, List, [], ◌∷◌, ◌++◌, map, length, take, drop, replicate, nat_lt, slice_index, slice_index_or, slice_set}
 use Rattle.sender.specs.declared.Name.{Name}
 use Rattle.sender.specs.declared.Words.{Words}
-use Rattle.sender.specs.Sender.{words_of, unit_of}
-use Rattle.store.specs.Store.{same, words_at, first}
+use Rattle.sender.specs.Sender.{name_of, same_name}
+use Rattle.store.specs.Store.{unit_at, first}
 use Rattle.cut_sources.specs.Sorted.{sorted}
 
 -- ---- counted sources: a tag, and a row of kind, four words, three counts
 abbrev pub counted_row : List (List ℕ) → ℕ → List ℕ
 counted_row rows i = slice_index_or rows i []
 
--- the words are those of the unit that the row reads as
-unfoldable pub reads_as : List (List ℕ) → Words → ℕ → Bool
-reads_as rows w i = same (words_of (unit_of (words_at rows i))) w
-
--- the source at i is the unit's: tag and words; one whose tag is not its unit's is not found
+-- the source at i reads as the unit of this name; so the first that reads as overflow is overflow's
 unfoldable pub counted_is : List ℕ → List (List ℕ) → Name → ℕ → Bool
-counted_is tags rows name i = slice_index tags i == name.tag && reads_as rows name.words i
+counted_is tags rows name i = same_name (name_of (unit_at tags rows i)) name
 
 unfoldable pub counted_find : List ℕ → List (List ℕ) → Name → ℕ → ℕ
 counted_find tags rows name n = first (counted_is tags rows name) n

@@ -3,25 +3,19 @@
 
 ghost use Rattle.std.specs.Prelude.{◌≡◌, ◌+◌, ◌<◌, ◌≤◌, length};
 ghost use Rattle.store.specs.Causes.{index_of};
+ghost use Rattle.sender.specs.Sender as sender;
 ghost use Rattle.store.specs.Store as store;
 ghost use Rattle.cut_sources.specs.Counted as counts;
 
 mod totals;
 
-use sender::{Name, Unit, Words};
+use sender::{Name, Named, Unit, Words};
 use std::mem;
 use store::{CAUSES, Cause, SourceRow};
 pub use totals::total_at;
 use totals::{keep_from, total};
 
 // ---- a counted source: a tag, and a row of kind, four words, three counts
-
-pub fn counted_words(counted: &[SourceRow], i: usize) -> Words
-    requires { i < length counted.now }
-    ensures { result ≡ store.words_at counted.now i }
-{
-    store::words_at(counted, i)
-}
 
 // A source's counts of receiver-ceiling, over-share and relay-rate.
 #[tactic(auto, unfolding(crate::specs::Counted::counts_at))]
@@ -33,13 +27,13 @@ pub fn counts_at(counted: &[SourceRow], i: usize) -> [u64; CAUSES]
     [row[5], row[6], row[7]]
 }
 
-// Whether the words are those of the unit that the row reads as.
-#[tactic(auto, unfolding(crate::specs::Counted::reads_as, store::specs::Store::same))]
-fn reads_as(counted: &[SourceRow], i: usize, w: Words) -> bool
+// Whether the row's words are these: raw words are compared.
+#[tactic(auto, unfolding(store::specs::Store::same))]
+fn has_words(counted: &[SourceRow], i: usize, words: Words) -> bool
     requires { i < length counted.now }
-    ensures { result ≡ counts.reads_as counted.now w i }
+    ensures { result ≡ store.same (store.words_at counted.now i) words }
 {
-    Words::from(Unit::from(counted_words(counted, i))) == w
+    store::words_at(counted, i) == words
 }
 
 // One more for a cause.
@@ -69,39 +63,78 @@ pub struct Sources<'a> {
     pub counted: &'a mut [SourceRow],
 }
 
+// The same lent to a call that only reads them.
+#[derive(Clone, Copy)]
+pub struct SourcesRead<'a> {
+    pub tags: &'a [u16],
+    pub counted: &'a [SourceRow],
+}
+
+impl SourcesRead<'_> {
+    // The unit that the source at i reads as.
+    pub fn unit_at(&self, i: usize) -> Unit
+        requires tag_in_bounds { i < length self.now.tags.now }
+        requires row_in_bounds { i < length self.now.counted.now }
+        ensures { result ≡ store.unit_at self.now.tags.now self.now.counted.now i }
+    {
+        store::unit_at::<8>(self.tags, self.counted, i)
+    }
+}
+
 impl Sources<'_> {
     ghost use Rattle.std.specs.Option.{IfSome};
     ghost use Rattle.cut_sources.specs.Held.{SameSources};
     ghost use Rattle.store.specs.Found.{found};
 
-    // The first of n sources that is the unit's.
-    fn counted_find(&self, n: usize, name: Name) -> Option<usize>
+    // The first of n sources that reads as overflow. Its tag may be any: each is read.
+    #[tactic(auto, using(crate::proofs::Reading::shared_here, crate::proofs::Reading::shared_none))]
+    fn find_shared(&self, n: usize) -> Option<usize>
         requires n_in_bounds { n ≤ length self.now.tags.now }
         requires n_in_bounds_2 { n ≤ length self.now.counted.now }
-        ensures value { result ≡ found n (counts.counted_find self.now.tags.now self.now.counted.now name n) }
+        ensures value { result ≡ found n (counts.counted_find self.now.tags.now self.now.counted.now (sender.name_of Unit.Overflow) n) }
         ensures upper_bound { IfSome result (λ i. i < n) }
     {
+        for i in 0..n {
+            if sender::is_overflow(store::unit_at::<8>(self.tags, self.counted, i)) {
+                return Some(i);
+            }
+        }
+        None
+    }
+
+    // The first of n sources that reads as the unit.
+    fn counted_find(&self, n: usize, named: Named) -> Option<usize>
+        requires n_in_bounds { n ≤ length self.now.tags.now }
+        requires n_in_bounds_2 { n ≤ length self.now.counted.now }
+        ensures value { result ≡ found n (counts.counted_find self.now.tags.now self.now.counted.now named.name n) }
+        ensures upper_bound { IfSome result (λ i. i < n) }
+    {
+        if sender::is_overflow(named.unit) {
+            return self.find_shared(n);
+        }
+        let Name { tag, words } = named.name;
         let counted = &*self.counted;
-        store_search::find_tagged(self.tags, n, name.tag, |i| reads_as(counted, i, name.words))
+        store_search::find_tagged(self.tags, n, tag, |i| has_words(counted, i, words))
     }
 
     // Of n sources, the unit's count for a cause is one more; how many sources there are then.
     #[tactic(auto, using(crate::proofs::Tagged::counted_there, crate::proofs::Tagged::tagged_there, crate::proofs::Tagged::counted_behind, crate::proofs::Tagged::tagged_behind))]
-    pub fn count(&mut self, n: usize, name: Name, cause: Cause) -> usize
+    pub fn count(&mut self, n: usize, named: Named, cause: Cause) -> usize
         requires n_in_bounds { n < length self.old.tags.now }
         requires n_in_bounds_2 { n < length self.old.counted.now }
         ensures counted_after { counts.sources result self.new.counted.now
-            ≡ counts.count self.old.tags.now self.old.counted.now n name (index_of cause) }
-        ensures tags_after { self.new.tags.now ≡ counts.count_tags self.old.tags.now self.old.counted.now n name }
+            ≡ counts.count self.old.tags.now self.old.counted.now n named.name (index_of cause) }
+        ensures tags_after { self.new.tags.now ≡ counts.count_tags self.old.tags.now self.old.counted.now n named.name }
         ensures upper_bound { result ≤ n + 1 }
         ensures slices { SameSources self.old self.new }
     {
-        if let Some(i) = self.counted_find(n, name) {
+        let Name { tag, words } = named.name;
+        if let Some(i) = self.counted_find(n, named) {
             counted_up(self.counted, i, cause);
             return n;
         }
-        self.tags[n] = name.tag;
-        counted_add(self.counted, n, name.words);
+        self.tags[n] = tag;
+        counted_add(self.counted, n, words);
         counted_up(self.counted, n, cause);
         n + 1
     }

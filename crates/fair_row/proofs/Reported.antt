@@ -7,6 +7,7 @@ use lib.Dec.{eqb}
 use lib.ListN.{length, take}
 use lib.Seq.{take-length, length-take-le}
 use Rattle.text.specs.Page.{page, write}
+use Rattle.store.specs.Store.{Rows}
 use Rattle.head.specs.declared.Shedder.{Shedder}
 use Rattle.std.proofs.Common.{Ok}
 use Rattle.head.specs.Answers.{refused}
@@ -23,16 +24,16 @@ pub front_length : (n : ℕ) (xs : List ℕ) → n ≤ length xs → n ≡ lengt
 front_length n xs h = sym (length-take-le n xs h)
 
 -- the front part that `report` returned, put into the buffer
-module _ (h : Shedder) (tags units uses : ℕ) (rows : List (List ℕ)) (out : List ℕ) where
-  answer_bytes : reports.bytes (reports.answer h tags units uses rows (length out)) ≡ length (reports.front h tags units uses rows (length out))
+module _ (h : Shedder) (m : Rows) (rows : List (List ℕ)) (out : List ℕ) where
+  answer_bytes : reports.bytes (reports.answer h m rows (length out)) ≡ length (reports.front h m rows (length out))
   unfolding reports.answer reports.front
-  answer_bytes = bytes_of (eqb (reports.report_asked h tags units uses rows (length out)) 0) (reports.report_asked h tags units uses rows (length out)) _
+  answer_bytes = bytes_of (eqb (reports.report_asked h m rows (length out)) 0) (reports.report_asked h m rows (length out)) _
 
-  pub part_put : (after part : List ℕ) (room r : ℕ) → room ≡ length out → part ≡ reports.front h tags units uses rows room → page after r ≡ write (page out 0) part → after ≡ (reports.report h tags units uses rows out).out
+  pub part_put : (after part : List ℕ) (room r : ℕ) → room ≡ length out → part ≡ reports.front h m rows room → page after r ≡ write (page out 0) part → after ≡ (reports.report h m rows out).out
   part_put after part room r er ep ew =
-      let g = reports.front h tags units uses rows (length out) in
-      let w = reports.answer h tags units uses rows (length out) in
+      let g = reports.front h m rows (length out) in
+      let w = reports.answer h m rows (length out) in
       let whole : take (length g) g ≡ g = take-length g in
       ap (λ (x : reports.Ends). x.out)
-      (written h tags units uses rows out w g after (length g) r refl (sym answer_bytes) (ap (λ (n : ℕ). take n g) answer_bytes ∙ whole)
-      (ew ∙ ap (write (page out 0)) (ep ∙ ap (reports.front h tags units uses rows) er ∙ sym whole)))
+      (written h m rows out w g after (length g) r refl (sym answer_bytes) (ap (λ (n : ℕ). take n g) answer_bytes ∙ whole)
+      (ew ∙ ap (write (page out 0)) (ep ∙ ap (reports.front h m rows) er ∙ sym whole)))

@@ -15,6 +15,7 @@ use Rattle.sender.specs.Sender.{Tells}
 use Rattle.sender.proofs.Naming.{name_injective}
 use Rattle.flow.specs.Flow as flow
 use Rattle.store.specs.Store as store
+use Rattle.store.specs.Held.{sizes_of}
 use Rattle.store.specs.Store.{Rows}
 use Rattle.store.specs.Found.{found}
 use Rattle.head.specs.declared.Shedder.{Shedder}
@@ -101,10 +102,10 @@ asked_by h m n true x e f = eqb-true n 0 e
 asked_by h m n false x e f = absurd (omega (arith, number_some (refusal_of n), f))
 
 asked : (h : Shedder) (m : Memory) (u : unit.Unit) (cost : List ℕ) (t : ℕ) → judge_number (judging.judge h m u cost t).answer ≡ 0
-    → judge_asked h (length m.rows.tags) (length m.rows.units) (length m.rows.uses) (length m.counted) cost t ≡ 0
+    → judge_asked h (sizes_of m.rows m.counted) cost t ≡ 0
 unfolding judging.judge
 asked h m u cost t f =
-    asked_by h m (judge_asked h (length m.rows.tags) (length m.rows.units) (length m.rows.uses) (length m.counted) cost t) _
+    asked_by h m (judge_asked h (sizes_of m.rows m.counted) cost t) _
     (cond (is_unbounded h.flow.rate) (judge_ends (Ok verdict.Admitted) h m) (bounded h m u cost t))
     refl f
 
@@ -112,6 +113,6 @@ pub watched_is : (h : Shedder) (m : Memory) (u : unit.Unit) (cost : List ℕ) (t
     → on_watched m.rows.tags m.rows.units h.tracked h.unit_room w u ≡ calls.same_key (key_of w) (calls.key (calls.state_of h m) u (calls.clock_at (calls.state_of h m) t))
 unfolding on_watched
 watched_is h m u cost t w f =
-    let r = asked_ready h (length m.rows.tags) (length m.rows.units) (length m.rows.uses) (length m.counted) cost t (asked h m u cost t f) in
+    let r = (asked_ready h (sizes_of m.rows m.counted) cost t (asked h m u cost t f)).cut in
     ap (λ (b : Bool). calls.same_key (key_of w) (calls.key_at b u))
     (own_is m.rows h.tracked h.unit_room u (calls.clock_at (calls.state_of h m) t) (omega (arith, r.tags_room)) r.units_room r.tracked_held)

@@ -1,9 +1,10 @@
 -- A list of calls, as the program is given it, and what running it leaves. Definitions only.
-use Rattle.std.specs.Prelude.{ℕ, zero, suc, ◌+◌, ◌^◌, ◌%◌, ◌≡◌, Bool, true, false, cond, ◌&&◌, List, [], ◌∷◌, eqb, leb, ltb, length, get_or, slice_index_or, replicate, Float, Result, Ok, Err}
+use Rattle.std.specs.Prelude.{ℕ, zero, suc, ◌+◌, ◌^◌, ◌%◌, ◌≡◌, Bool, true, false, cond, ◌&&◌, List, [], ◌∷◌, eqb, leb, ltb, length, get_or, slice_index_or, replicate, Result, Ok, Err}
 use Rattle.flow.specs.Flow.{dims, upto}
 use Rattle.sender.specs.declared.Unit as unit
 use Rattle.sender.specs.Sender as sender
 use Rattle.store.specs.Store as store
+use Rattle.store.specs.Held.{sizes_of, lent_rows, read_rows}
 use Rattle.wants.specs.Wants.{Hist}
 use Rattle.head.specs.declared.Shedder.{Shedder}
 use Rattle.verdict.specs.declared.Verdict.{Verdict}
@@ -27,20 +28,16 @@ use Rattle.fair_row.specs.declared.Reading as asked
 use Rattle.fair_row.specs.declared.Reading.TheVariants as reading
 use Rattle.fair_row.specs.declared.Turned.{Turned}
 
--- ---- head and memory, as the program holds them
-abbrev pub held_with : Hist → Shedder → List ℕ → List (List ℕ) → List (List Float) → List (List ℕ) → State
-held_with g h tags units uses counted = calls.state_of h (judging.memory (store.rows tags units uses) g counted)
-
--- as they are lent to a call
+-- ---- head and memory, as they are lent to a call
 abbrev pub held_lent : Shedder → Lent → Histogram → State
 held_lent h l g = calls.state_of h (lent_memory l g)
 
 -- and to one that reads the rows, or writes no histogram
 abbrev pub held_rows : Hist → Shedder → Lent → State
-held_rows g h l = held_with g h l.tags.now l.units.now l.uses.now l.counted.now
+held_rows g h l = calls.state_of h (judging.memory (lent_rows l) g l.counted.now)
 
 abbrev pub held_read : Hist → Shedder → LentRead → State
-held_read g h l = held_with g h l.tags.now l.units.now l.uses.now l.counted.now
+held_read g h l = calls.state_of h (judging.memory (read_rows l) g l.counted.now)
 
 -- ---- the program's calls
 -- as those of the theorem, which hold a report's buffer: `page` is that buffer as the call gets it
@@ -61,7 +58,7 @@ call_of (call.Read q) page = Read (reading_of q page)
 -- ---- the buffer
 -- a report leaves what its definition says, any other call leaves the buffer as it was
 abbrev pub report_page : State → List ℕ → List ℕ
-report_page s out = (reports.report s.head (length s.memory.rows.tags) (length s.memory.rows.units) (length s.memory.rows.uses) s.memory.counted out).out
+report_page s out = (reports.report s.head s.memory.rows s.memory.counted out).out
 
 abbrev pub read_page : State → Reading → List ℕ → List ℕ
 read_page s (Report out) page = report_page s out

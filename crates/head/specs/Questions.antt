@@ -3,6 +3,7 @@
 use Rattle.std.specs.Prelude.{ℕ, ◌+◌, ◌^◌, ◌≤◌, ◌<◌, ◌≡◌, Bool, false, ◌&&◌, cond, ◌||◌, List, eqb, leb, ltb, get_or}
 use Rattle.flow.specs.Flow.{all, dims, «UNBOUNDED», RATE_MOST}
 use Rattle.sender.specs.Sender.{«TABLES»}
+use Rattle.store.specs.declared.lent.Sizes.{Sizes}
 use Rattle.head.specs.declared.Shedder.{Shedder}
 
 -- the highest cost
@@ -46,12 +47,12 @@ rooms_whole u c tracked counted =
     cond (ltb u 1) false (cond (ltb UNITS_TRACKED u) false (cond (ltb c 2) false (cond (ltb SOURCE_RECORDS c) false (cond (ltb u tracked) false (ltb counted c)))))
 
 -- a tag for each record: those of the unit records, then those of the counted records
-unfoldable pub tags_whole : ℕ → ℕ → ℕ → Bool
-tags_whole tags units counted = eqb tags (units + counted)
+unfoldable pub tags_whole : Sizes → Bool
+tags_whole s = eqb s.tags (s.units + s.counted)
 
 -- by the lengths of the lent slices
-unfoldable pub sizes_whole : ℕ → ℕ → ℕ → ℕ → Bool
-sizes_whole tags units uses counted = tags_whole tags units counted && (eqb uses units && rooms_whole units counted 0 0)
+unfoldable pub sizes_whole : Sizes → Bool
+sizes_whole s = tags_whole s && (eqb s.uses s.units && rooms_whole s.units s.counted 0 0)
 
 -- ---- question 3: the head is whole
 -- at most 2^53 − 1
@@ -71,42 +72,38 @@ head_whole h =
     && (tables_whole h.scan.remaining h.scan.next && rooms_whole h.unit_room h.counted_room h.tracked h.counted)
 
 -- ---- question 4: the lent slices have the capacities noted at the start
-unfoldable pub memory_whole : Shedder → ℕ → ℕ → ℕ → ℕ → Bool
-memory_whole h tags units uses counted = tags_whole tags units counted && (eqb units h.unit_room && (eqb uses h.unit_room && eqb counted h.counted_room))
+unfoldable pub memory_whole : Shedder → Sizes → Bool
+memory_whole h s = tags_whole s && (eqb s.units h.unit_room && (eqb s.uses h.unit_room && eqb s.counted h.counted_room))
 
 -- ---- question 5: each cost is at most 2^40 (question 6 is `is_stamp` of the stamp)
 unfoldable pub costs_held : List ℕ → Bool
 costs_held xs = all (λ (d : ℕ). leb (get_or xs d 0) COST_MOST) dims
 
--- ---- the number of the first question answered no, else 0: at a start, a judgement, a cut, a reading; after the head, the lengths of the lent slices
-unfoldable pub start_asked : List ℕ → ℕ → ℕ → ℕ → ℕ → ℕ
-start_asked rate tags units uses counted = cond (rates_whole rate) (cond (sizes_whole tags units uses counted) 0 2) 1
+-- ---- the number of the first question answered no, else 0: at a start, a judgement, a cut, a reading; by the lengths of the lent slices
+unfoldable pub start_asked : List ℕ → Sizes → ℕ
+start_asked rate s = cond (rates_whole rate) (cond (sizes_whole s) 0 2) 1
 
-unfoldable pub judge_asked : Shedder → ℕ → ℕ → ℕ → ℕ → List ℕ → ℕ → ℕ
-judge_asked h tags units uses counted cost stamp =
-    cond (head_whole h) (cond (memory_whole h tags units uses counted) (cond (costs_held cost) (cond (is_stamp stamp) 0 6) 5) 4) 3
+unfoldable pub judge_asked : Shedder → Sizes → List ℕ → ℕ → ℕ
+judge_asked h s cost stamp = cond (head_whole h) (cond (memory_whole h s) (cond (costs_held cost) (cond (is_stamp stamp) 0 6) 5) 4) 3
 
-unfoldable pub cut_asked : Shedder → ℕ → ℕ → ℕ → ℕ → List ℕ → ℕ
-cut_asked h tags units uses counted cost = cond (head_whole h) (cond (memory_whole h tags units uses counted) (cond (costs_held cost) 0 5) 4) 3
+unfoldable pub cut_asked : Shedder → Sizes → List ℕ → ℕ
+cut_asked h s cost = cond (head_whole h) (cond (memory_whole h s) (cond (costs_held cost) 0 5) 4) 3
 
 unfoldable pub read_asked : Shedder → ℕ
 read_asked h = cond (head_whole h) 0 3
 
 -- ---- what the questions have shown, for the calls behind them
-pub record Ready (h : Shedder) (tags units uses counted stamp : ℕ) : Type 0 where
-  pub tags_room : tags ≡ h.unit_room + counted
-  pub units_room : units ≡ h.unit_room
-  pub uses_room : uses ≡ h.unit_room
+pub record CutReady (h : Shedder) (s : Sizes) : Type 0 where
+  pub tags_room : s.tags ≡ h.unit_room + s.counted
+  pub units_room : s.units ≡ h.unit_room
+  pub uses_room : s.uses ≡ h.unit_room
   pub tracked_held : h.tracked ≤ h.unit_room
-  pub counted_held : h.counted < counted
+  pub counted_held : h.counted < s.counted
+
+-- a judgement: what a cut is shown, and more
+pub record Ready (h : Shedder) (s : Sizes) (stamp : ℕ) : Type 0 where
+  pub cut : CutReady h s
   pub stamp_held : stamp < STAMP_END
   pub clock_held : h.flow.at_ms < STAMP_END
   pub began_held : h.scan.began_ms < STAMP_END
   pub tables_held : h.scan.remaining + h.scan.next ≤ «TABLES»
-
-pub record CutReady (h : Shedder) (tags units uses counted : ℕ) : Type 0 where
-  pub tags_room : tags ≡ h.unit_room + counted
-  pub units_room : units ≡ h.unit_room
-  pub uses_room : uses ≡ h.unit_room
-  pub tracked_held : h.tracked ≤ h.unit_room
-  pub counted_held : h.counted < counted

@@ -8,6 +8,7 @@ use Rattle.flow.specs.Flow.{at, upto, zeros, numbers, dims}
 use Rattle.ieee.specs.Extremes.{least}
 use Rattle.flow.specs.declared.Bucket.{Bucket}
 use Rattle.store.specs.Store.{«CAUSES»}
+use Rattle.store.specs.declared.lent.Sizes.{Sizes}
 use Rattle.wants.specs.Wants as wants
 use Rattle.wants.specs.Wants.{Hist}
 use Rattle.head.specs.declared.Shedder.{Shedder}
@@ -62,6 +63,6 @@ abbrev pub start_ends : Result ⊤ Refusal → Shedder → Hist → Beginning
 start_ends b h g = record { answer = b; head = h; hist = g }
 
 -- THE START: no record is written; a refused one leaves the head that was
-unfoldable pub start : Shedder → ℕ → ℕ → ℕ → ℕ → Hist → List ℕ → List ℕ → Beginning
-start h tags units uses counted g rate ceiling =
-    cond (eqb (start_asked rate tags units uses counted) 0) (start_ends (Ok tt) (opening rate ceiling units counted) wants.cleared) (start_ends (refused (start_asked rate tags units uses counted)) h g)
+unfoldable pub start : Shedder → Sizes → Hist → List ℕ → List ℕ → Beginning
+start h s g rate ceiling =
+    cond (eqb (start_asked rate s) 0) (start_ends (Ok tt) (opening rate ceiling s.units s.counted) wants.cleared) (start_ends (refused (start_asked rate s)) h g)

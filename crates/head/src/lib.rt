@@ -2,7 +2,7 @@
 #![tactic(auto)]
 
 ghost use Rattle.std.specs.Prelude.{◌≡◌};
-ghost use Rattle.store.specs.Held.{of_sizes, read_sizes};
+ghost use Rattle.store.specs.Held.{read_sizes};
 ghost use Rattle.wants.specs.Held.{wants_held, SameArrays};
 ghost use Rattle.head.specs.Questions as asked;
 ghost use Rattle.head.specs.Answers as answers;
@@ -200,7 +200,7 @@ pub fn head_whole(h: Shedder) -> bool
 // A tag for each record, those of the counted records behind those of the unit records.
 #[tactic(auto, unfolding(crate::specs::Questions::tags_whole))]
 fn tags_whole(sizes: Sizes) -> bool
-    ensures { result ≡ asked.tags_whole sizes.tags sizes.units sizes.counted }
+    ensures { result ≡ asked.tags_whole sizes }
 {
     sizes.units <= sizes.tags && sizes.tags - sizes.units == sizes.counted
 }
@@ -208,7 +208,7 @@ fn tags_whole(sizes: Sizes) -> bool
 // Question 4.
 #[tactic(auto, unfolding(crate::specs::Questions::memory_whole))]
 pub fn memory_whole(h: Shedder, sizes: Sizes) -> bool
-    ensures { result ≡ of_sizes (asked.memory_whole h) sizes }
+    ensures { result ≡ asked.memory_whole h sizes }
 {
     tags_whole(sizes)
         && sizes.units == h.unit_room
@@ -219,7 +219,7 @@ pub fn memory_whole(h: Shedder, sizes: Sizes) -> bool
 // Question 2.
 #[tactic(auto, unfolding(crate::specs::Questions::sizes_whole))]
 fn sizes_whole(sizes: Sizes) -> bool
-    ensures { result ≡ of_sizes asked.sizes_whole sizes }
+    ensures { result ≡ asked.sizes_whole sizes }
 {
     tags_whole(sizes) && sizes.uses == sizes.units && rooms_whole(sizes.units, sizes.counted, 0, 0)
 }
@@ -227,7 +227,7 @@ fn sizes_whole(sizes: Sizes) -> bool
 // The questions of a call in their order; the first answered no refuses it.
 #[tactic(auto, unfolding(crate::specs::Questions::start_asked, crate::specs::Answers::answer_number, crate::specs::Answers::number_of))]
 fn start_asked(rate: [u64; DIMS], sizes: Sizes) -> Result<(), Refusal>
-    ensures { answers.answer_number result ≡ of_sizes (asked.start_asked rate) sizes }
+    ensures { answers.answer_number result ≡ asked.start_asked rate sizes }
 {
     if !rates_whole(rate) {
         return Err(Refusal::Rates);
@@ -240,7 +240,7 @@ fn start_asked(rate: [u64; DIMS], sizes: Sizes) -> Result<(), Refusal>
 
 #[tactic(auto, unfolding(crate::specs::Questions::judge_asked, crate::specs::Questions::cut_asked, crate::specs::Answers::answer_number, crate::specs::Answers::number_of))]
 pub fn judge_asked(h: Shedder, sizes: Sizes, cost: [u64; DIMS], stamp: u64) -> Result<(), Refusal>
-    ensures { answers.answer_number result ≡ of_sizes (asked.judge_asked h) sizes cost stamp }
+    ensures { answers.answer_number result ≡ asked.judge_asked h sizes cost stamp }
 {
     cut_asked(h, sizes, cost)?;
     if !is_stamp(stamp) {
@@ -251,7 +251,7 @@ pub fn judge_asked(h: Shedder, sizes: Sizes, cost: [u64; DIMS], stamp: u64) -> R
 
 #[tactic(auto, unfolding(crate::specs::Questions::cut_asked, crate::specs::Questions::read_asked, crate::specs::Answers::answer_number, crate::specs::Answers::number_of))]
 pub fn cut_asked(h: Shedder, sizes: Sizes, cost: [u64; DIMS]) -> Result<(), Refusal>
-    ensures { answers.answer_number result ≡ of_sizes (asked.cut_asked h) sizes cost }
+    ensures { answers.answer_number result ≡ asked.cut_asked h sizes cost }
 {
     read_asked(h)?;
     if !memory_whole(h, sizes) {
@@ -335,9 +335,9 @@ pub fn start(
 ) -> Starting
     ensures same_but_nan_bits { SameButNanBits
         (starts.beginning result (wants_held histogram.new))
-        (of_sizes (starts.start head) (read_sizes lent.now) (wants_held histogram.old) rate ceiling) }
+        (starts.start head (read_sizes lent.now) (wants_held histogram.old) rate ceiling) }
     ensures answer_value { answers.start_number result.answer
-        ≡ of_sizes (asked.start_asked rate) (read_sizes lent.now) }
+        ≡ asked.start_asked rate (read_sizes lent.now) }
     ensures arrays { SameArrays histogram.old histogram.new }
 {
     if let Err(refusal) = start_asked(rate, lent.sizes()) {

@@ -16,7 +16,8 @@ use Rattle.sender.specs.declared.Words.{Words}
 use Rattle.sender.specs.declared.Name.{Name}
 use Rattle.sender.specs.Sender.{name_of, is_overflow}
 use Rattle.cut_sources.specs.Counted as counts
-use Rattle.store.specs.Store.{Rows, rows, find}
+use Rattle.store.specs.Store.{Rows, with_tags, find}
+use Rattle.store.specs.Held.{sizes_of}
 use Rattle.cut_sources.specs.Counted.{Sources, sources, counted_find, counted_up, counted_add}
 use Rattle.cut_sources.proofs.Pruning.{frees}
 use Rattle.head.specs.declared.Shedder.{Shedder}
@@ -151,7 +152,7 @@ bounded_whole h m u cost stamp w p e =
     let held : clock < 9007199254740992 = latest stamp h.flow.at_ms p w.clock in
     let j = judged h m.rows u (numbers cost) clock in
     let t = count_verdict (tally j.head j.rows.tags m.counted) (name_of u) j.verdict cost in
-    scanned_whole (scanning t.head (rows t.tags j.rows.units j.rows.uses) m.hist) clock
+    scanned_whole (scanning t.head (with_tags j.rows t.tags) m.hist) clock
     (counted_whole j.head j.rows.tags m.counted (name_of u) j.verdict cost (judged_whole h m.rows u (numbers cost) clock w held) (e ∙ sym (judged_room h m.rows u (numbers cost) clock))) held
 
 cond_judged : (b : Bool) (x y : Judged) → (b ≡ true → head_whole x.head ≡ true) → head_whole y.head ≡ true → head_whole (cond b x y).head ≡ true
@@ -161,12 +162,12 @@ cond_judged false x y p q = q
 judge_keeps : (h : Shedder) (m : Memory) (u : Unit) (cost : List ℕ) (stamp : ℕ) → head_whole h ≡ true → head_whole (judge h m u cost stamp).head ≡ true
 unfolding judge
 judge_keeps h m u cost stamp w =
-    let a = judge_asked h (length m.rows.tags) (length m.rows.units) (length m.rows.uses) (length m.counted) cost stamp in
+    let a = judge_asked h (sizes_of m.rows m.counted) cost stamp in
     cond_judged (eqb a 0) _ _ (λ e.
-    let r = asked_ready h (length m.rows.tags) (length m.rows.units) (length m.rows.uses) (length m.counted) cost stamp (eqb-true a 0 e) in
+    let r = asked_ready h (sizes_of m.rows m.counted) cost stamp (eqb-true a 0 e) in
     cond_judged (is_unbounded h.flow.rate) _ _ (λ y. w)
     (whole_is (bounded h m u cost stamp).head (bounded_whole h m u cost stamp (whole_of h w) r.stamp_held
-    (memory_counted h (length m.rows.tags) (length m.rows.units) (length m.rows.uses) (length m.counted) (judge_memory h _ _ _ _ cost stamp (eqb-true a 0 e)))))) w
+    (memory_counted h (sizes_of m.rows m.counted) (judge_memory h _ cost stamp (eqb-true a 0 e)))))) w
 
 -- ---- a cut
 after_whole : (s : KeptBy) (k : List (List ℕ)) (u : Unit) (c : Cause) (cost : List ℕ) → Whole s.head → length k ≡ s.head.counted_room → head_whole (cut_after k u c cost s).head ≡ true
@@ -184,9 +185,9 @@ cond_cut false x y p q = q
 cut_keeps : (h : Shedder) (m : Rows) (k : List (List ℕ)) (u : Unit) (c : Cause) (cost : List ℕ) → head_whole h ≡ true → head_whole (cut h m k u c cost).head ≡ true
 unfolding cut
 cut_keeps h m k u c cost w =
-    let a = cut_asked h (length m.tags) (length m.units) (length m.uses) (length k) cost in
+    let a = cut_asked h (sizes_of m k) cost in
     cond_cut (eqb a 0) _ _ (λ e.
-    let room : length k ≡ h.counted_room = memory_counted h (length m.tags) (length m.units) (length m.uses) (length k) (cut_memory h _ _ _ _ cost (eqb-true a 0 e)) in
+    let room : length k ≡ h.counted_room = memory_counted h (sizes_of m k) (cut_memory h _ cost (eqb-true a 0 e)) in
     cond_cut (hands_back h.flow.rate c) _ _ (λ y.
     (after_whole (handed_back (kept_by h m) u (numbers cost)) k u c cost (handed_whole h m u (numbers cost) (whole_of h w)) (room ∙ sym (handed_room h m u (numbers cost)))))
     (after_whole (kept_by h m) k u c cost (whole_of h w) room)) w

@@ -6,6 +6,7 @@ use Prim.Native.Nat.{ℕ, zero, suc, ◌+◌, ◌-◌, ◌≤◌, ◌<◌}
 use native.Mathlib.Omega.{arith}
 use lib.Dec.{eqb, leb, ltb}
 use borrow.Author.Tests.{eqb-true, eq-eqb, leb-true}
+use Rattle.store.specs.declared.lent.Sizes.{Sizes}
 use Rattle.store.specs.Store.{Rows}
 use Rattle.store_retain.specs.Retain.{Kept, kept, is_stale, freed, moved, retain_one, retained}
 use Rattle.wants.specs.Wants.{Hist}
@@ -15,53 +16,49 @@ use Rattle.head.specs.Questions.{rates_whole, is_stamp, tables_whole, rooms_whol
 use Rattle.std.proofs.lemmas.Bool.{and_parts}
 use Rattle.head.proofs.Tests.{zero_yes, both}
 use Rattle.head.proofs.Whole.{Whole, tables-is, tables_sum}
+use Rattle.head.proofs.Asked.{memory_of}
 use Rattle.head.specs.Start.{Beginning, opening, start}
 use Rattle.scan_trim.specs.Trimming.{trimmed}
 use Rattle.scan.specs.Scanning.{Scanning, scanning, visited, visit, again, ended, opened, Started, started, begun, scanned}
 
 -- ---- the memory has the capacities noted
-pub judge_memory : (h : Shedder) (i u s k : ℕ) (cost : List ℕ) (stamp : ℕ) → judge_asked h i u s k cost stamp ≡ 0 → memory_whole h i u s k ≡ true
+pub judge_memory : (h : Shedder) (s : Sizes) (cost : List ℕ) (stamp : ℕ) → judge_asked h s cost stamp ≡ 0 → memory_whole h s ≡ true
 unfolding judge_asked
-judge_memory h i u s k cost stamp e =
+judge_memory h s cost stamp e =
     let a = zero_yes (head_whole h) _ 2 e in
-    (zero_yes (memory_whole h i u s k) _ 3 a.1).0
+    (zero_yes (memory_whole h s) _ 3 a.1).0
 
-pub cut_memory : (h : Shedder) (i u s k : ℕ) (cost : List ℕ) → cut_asked h i u s k cost ≡ 0 → memory_whole h i u s k ≡ true
+pub cut_memory : (h : Shedder) (s : Sizes) (cost : List ℕ) → cut_asked h s cost ≡ 0 → memory_whole h s ≡ true
 unfolding cut_asked
-cut_memory h i u s k cost e =
+cut_memory h s cost e =
     let a = zero_yes (head_whole h) _ 2 e in
-    (zero_yes (memory_whole h i u s k) _ 3 a.1).0
+    (zero_yes (memory_whole h s) _ 3 a.1).0
 
-pub memory_counted : (h : Shedder) (i u s k : ℕ) → memory_whole h i u s k ≡ true → k ≡ h.counted_room
-unfolding memory_whole
-memory_counted h i u s k e =
-    let a = and_parts (tags_whole i u k) _ e in
-    let b = and_parts (eqb u h.unit_room) _ a.1 in
-    let d = and_parts (eqb s h.unit_room) _ b.1 in
-    eqb-true k h.counted_room d.1
+pub memory_counted : (h : Shedder) (s : Sizes) → memory_whole h s ≡ true → s.counted ≡ h.counted_room
+memory_counted h s e = (memory_of h s e).counted
 
 -- ---- a start
-opening_whole : (rate ceiling : List ℕ) (tags units uses counted : ℕ) → start_asked rate tags units uses counted ≡ 0 → head_whole (opening rate ceiling units counted) ≡ true
+opening_whole : (rate ceiling : List ℕ) (s : Sizes) → start_asked rate s ≡ 0 → head_whole (opening rate ceiling s.units s.counted) ≡ true
 unfolding start_asked sizes_whole opening head_whole stamps_whole is_stamp tables_whole
-opening_whole rate ceiling tags units uses counted e =
+opening_whole rate ceiling s e =
     let a = zero_yes (rates_whole rate) _ 0 e in
-    let b = zero_yes (sizes_whole tags units uses counted) 0 1 a.1 in
-    let d = and_parts (tags_whole tags units counted) _ b.0 in
-    let f = and_parts (eqb uses units) _ d.1 in
-    both (rates_whole rate && true) (true && rooms_whole units counted 0 0) (both (rates_whole rate) true a.0 refl) f.1
+    let b = zero_yes (sizes_whole s) 0 1 a.1 in
+    let d = and_parts (tags_whole s) _ b.0 in
+    let f = and_parts (eqb s.uses s.units) _ d.1 in
+    both (rates_whole rate && true) (true && rooms_whole s.units s.counted 0 0) (both (rates_whole rate) true a.0 refl) f.1
 
 start_case : (b : Bool) (x y : Beginning) → (b ≡ true → head_whole x.head ≡ true) → head_whole y.head ≡ true → head_whole (cond b x y).head ≡ true
 start_case true x y p q = p refl
 start_case false x y p q = q
 
-pub start_whole : (h : Shedder) (tags units uses counted : ℕ) (g : Hist) (rate ceiling : List ℕ) → start_asked rate tags units uses counted ≡ 0 → head_whole (start h tags units uses counted g rate ceiling).head ≡ true
+pub start_whole : (h : Shedder) (s : Sizes) (g : Hist) (rate ceiling : List ℕ) → start_asked rate s ≡ 0 → head_whole (start h s g rate ceiling).head ≡ true
 unfolding start
-start_whole h tags units uses counted g rate ceiling e = rw (eq-eqb (start_asked rate tags units uses counted) 0 e) (opening_whole rate ceiling tags units uses counted e)
+start_whole h s g rate ceiling e = rw (eq-eqb (start_asked rate s) 0 e) (opening_whole rate ceiling s e)
 
-pub start_keeps : (h : Shedder) (tags units uses counted : ℕ) (g : Hist) (rate ceiling : List ℕ) → head_whole h ≡ true → head_whole (start h tags units uses counted g rate ceiling).head ≡ true
+pub start_keeps : (h : Shedder) (s : Sizes) (g : Hist) (rate ceiling : List ℕ) → head_whole h ≡ true → head_whole (start h s g rate ceiling).head ≡ true
 unfolding start
-start_keeps h tags units uses counted g rate ceiling w =
-    start_case (eqb (start_asked rate tags units uses counted) 0) _ _ (λ e. opening_whole rate ceiling tags units uses counted (eqb-true (start_asked rate tags units uses counted) 0 e)) w
+start_keeps h s g rate ceiling w =
+    start_case (eqb (start_asked rate s) 0) _ _ (λ e. opening_whole rate ceiling s (eqb-true (start_asked rate s) 0 e)) w
 
 -- ---- of n records n at most are kept
 cond_held : (b : Bool) (x y : Kept) (n : ℕ) → x.count ≤ n → y.count ≤ n → (cond b x y).count ≤ n

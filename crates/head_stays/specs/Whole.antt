@@ -2,6 +2,7 @@
 use Rattle.std.specs.Prelude.{ℕ, ◌≡◌, true, List}
 use Rattle.sender.specs.declared.Unit as unit
 use Rattle.store.specs.Store.{Rows}
+use Rattle.store.specs.declared.lent.Sizes.{Sizes}
 use Rattle.wants.specs.Wants.{Hist}
 use Rattle.head.specs.declared.Shedder.{Shedder}
 use Rattle.store.specs.declared.Cause.{Cause}
@@ -11,7 +12,7 @@ use Rattle.judge.specs.Judging.{Memory, judge}
 use Rattle.cut.specs.Cutting.{cut}
 
 pub record Stays : Type 0 where
-  pub start_whole : (h : Shedder) (tags units uses counted : ℕ) (g : Hist) (rate ceiling : List ℕ) → start_asked rate tags units uses counted ≡ 0 → head_whole (start h tags units uses counted g rate ceiling).head ≡ true
-  pub start_keeps : (h : Shedder) (tags units uses counted : ℕ) (g : Hist) (rate ceiling : List ℕ) → head_whole h ≡ true → head_whole (start h tags units uses counted g rate ceiling).head ≡ true
+  pub start_whole : (h : Shedder) (s : Sizes) (g : Hist) (rate ceiling : List ℕ) → start_asked rate s ≡ 0 → head_whole (start h s g rate ceiling).head ≡ true
+  pub start_keeps : (h : Shedder) (s : Sizes) (g : Hist) (rate ceiling : List ℕ) → head_whole h ≡ true → head_whole (start h s g rate ceiling).head ≡ true
   pub judge_keeps : (h : Shedder) (m : Memory) (u : unit.Unit) (cost : List ℕ) (stamp : ℕ) → head_whole h ≡ true → head_whole (judge h m u cost stamp).head ≡ true
   pub cut_keeps : (h : Shedder) (m : Rows) (k : List (List ℕ)) (u : unit.Unit) (c : Cause) (cost : List ℕ) → head_whole h ≡ true → head_whole (cut h m k u c cost).head ≡ true

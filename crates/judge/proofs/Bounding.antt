@@ -7,7 +7,7 @@ use Rattle.flow.specs.Flow.{numbers}
 use Rattle.sender.specs.declared.Unit.{Unit}
 use Rattle.sender.specs.declared.Name.{Name}
 use Rattle.sender.specs.Sender.{name_of}
-use Rattle.store.specs.Store.{Rows, rows}
+use Rattle.store.specs.Store.{Rows, with_tags}
 use Rattle.wants.specs.Wants.{Hist}
 use Rattle.head.specs.declared.Shedder.{Shedder}
 use Rattle.std.proofs.Common.{Some}
@@ -18,18 +18,18 @@ use Rattle.judge.specs.declared.Passed.{Passed}
 use Rattle.judge.specs.Judging.{passed, judged, answer_of, memory, judge_ends, bounded_scanned, bounded_counted, bounded_passed, bounded, ruled, bounded_ruling}
 
 pub bounded_is : (h : Shedder) (m : Rows) (g : Hist) (k : List (List ℕ)) (u : Unit) (cost : List ℕ) (stamp : ℕ)
-    (clock : ℕ) (paid : List Float) (p : Passed) (i1 : List ℕ) (u1 : List (List ℕ)) (s1 : List (List Float)) (n : Name) (t : Shedder) (i2 : List ℕ) (k1 : List (List ℕ)) (s : Shedder) (m2 : Rows) (g1 : Hist)
+    (clock : ℕ) (paid : List Float) (p : Passed) (m1 : Rows) (n : Name) (t : Shedder) (i2 : List ℕ) (k1 : List (List ℕ)) (s : Shedder) (m2 : Rows) (g1 : Hist)
     → clock ≡ max stamp h.flow.at_ms
     → paid ≡ numbers cost
-    → passed p (rows i1 u1 s1) ≡ judged h m u paid clock
+    → passed p m1 ≡ judged h m u paid clock
     → n ≡ name_of u
-    → tally t i2 k1 ≡ count_verdict (tally p.head i1 k) n p.verdict cost
-    → scanning s m2 g1 ≡ scanned (scanning t (rows i2 u1 s1) g) clock
+    → tally t i2 k1 ≡ count_verdict (tally p.head m1.tags k) n p.verdict cost
+    → scanning s m2 g1 ≡ scanned (scanning t (with_tags m1 i2) g) clock
     → judge_ends (answer_of p.verdict) s (memory m2 g1 k1) ≡ bounded h (memory m g k) u cost stamp
 unfolding bounded
-bounded_is h m g k u cost stamp clock paid p i1 u1 s1 n t i2 k1 s m2 g1 eC eN eP eW eT eS =
+bounded_is h m g k u cost stamp clock paid p m1 n t i2 k1 s m2 g1 eC eN eP eW eT eS =
     ap (bounded_scanned (answer_of p.verdict) k1) eS
-    ∙ ap (bounded_counted g clock (passed p (rows i1 u1 s1))) (eT ∙ ap (λ (n : Name). count_verdict (tally p.head i1 k) n p.verdict cost) eW)
+    ∙ ap (bounded_counted g clock (passed p m1)) (eT ∙ ap (λ (n : Name). count_verdict (tally p.head m1.tags k) n p.verdict cost) eW)
     ∙ ap (bounded_passed (memory m g k) u cost clock) eP
     ∙ ap (λ (c : List Float). bounded_passed (memory m g k) u cost clock (judged h m u c clock)) eN
     ∙ ap (λ (clock : ℕ). bounded_passed (memory m g k) u cost clock (judged h m u (numbers cost) clock)) eC

@@ -1,5 +1,5 @@
 -- A judgement: the questions, the record, the verdict, the counts, the scan. Definitions only.
-use Rattle.std.specs.Prelude.{ℕ, ◌-◌, max, cond, List, eqb, ltb, length, Float, Option, Some, None, Result, Ok}
+use Rattle.std.specs.Prelude.{ℕ, ◌-◌, max, cond, List, eqb, ltb, Float, Option, Some, None, Result, Ok}
 use Rattle.ieee.specs.Doubles.{◌⊕◌, nothing}
 use Rattle.flow.specs.Flow as flow
 use Rattle.verdict.specs.Verdict as verdicts
@@ -15,7 +15,8 @@ use Rattle.verdict.specs.declared.Rule.TheVariants as rule_kind
 use Rattle.sender.specs.declared.Unit as unit
 use Rattle.sender.specs.declared.Unit.TheVariants as units
 use Rattle.sender.specs.Sender as sender
-use Rattle.store.specs.Store.{Rows, rows}
+use Rattle.store.specs.Store.{Rows, with_tags}
+use Rattle.store.specs.Held.{sizes_of}
 use Rattle.wants.specs.Wants.{Hist}
 use Rattle.head.specs.declared.Flow.{Flow}
 use Rattle.head.specs.declared.Shedder.{Shedder}
@@ -66,22 +67,22 @@ abbrev pub passing : Shedder → ℕ → List Float → Entered → Outcome → 
 passing h clock cost e o b = record {
   verdict = o.verdict;
   head = headed h (flowed h.flow o cost clock) b.overflow e.place.tracked;
-  rows = rows e.rows.tags b.units b.uses;
+  rows = b.rows;
 }
 
 -- the outcome at an entered place
 abbrev pub outcome_at : Shedder → unit.Unit → List Float → ℕ → Entered → Outcome
 outcome_at h u cost clock e =
-    outcome h.flow h.level (used_at e.rows.units e.rows.uses h.overflow e.place.at) (rank_at (sender.hash_of u) e.place.at h.unit_room) cost clock
+    outcome h.flow h.level (used_at e.rows h.overflow e.place.at) (rank_at (sender.hash_of u) e.place.at h.unit_room) cost clock
 
 -- and the rule there
 abbrev pub rule_at : Shedder → unit.Unit → List Float → ℕ → Entered → Rule
 rule_at h u cost clock e =
-    rule h.flow h.level (used_at e.rows.units e.rows.uses h.overflow e.place.at) (rank_at (sender.hash_of u) e.place.at h.unit_room) cost clock
+    rule h.flow h.level (used_at e.rows h.overflow e.place.at) (rank_at (sender.hash_of u) e.place.at h.unit_room) cost clock
 
 abbrev pub judged_at : Shedder → unit.Unit → List Float → ℕ → Entered → Through
 judged_at h u cost clock e =
-    passing h clock cost e (outcome_at h u cost clock e) (put_back e.rows.units e.rows.uses h.overflow e.place.at (outcome_at h u cost clock e).used)
+    passing h clock cost e (outcome_at h u cost clock e) (put_back e.rows h.overflow e.place.at (outcome_at h u cost clock e).used)
 
 -- a judgement on the record that is found, added or overflow's
 unfoldable pub judged : Shedder → Rows → unit.Unit → List Float → ℕ → Through
@@ -121,7 +122,7 @@ bounded_scanned a counted s = judge_ends a s.head (memory s.rows s.hist counted)
 
 -- the scan, once the cut was counted
 abbrev pub bounded_counted : Hist → ℕ → Through → Tally → Judged
-bounded_counted g clock p t = bounded_scanned (answer_of p.verdict) t.counted (scanned (scanning t.head (rows t.tags p.rows.units p.rows.uses) g) clock)
+bounded_counted g clock p t = bounded_scanned (answer_of p.verdict) t.counted (scanned (scanning t.head (with_tags p.rows t.tags) g) clock)
 
 -- the count, under the unit named, once the verdict is there
 abbrev pub bounded_passed : Memory → unit.Unit → List ℕ → ℕ → Through → Judged
@@ -134,9 +135,9 @@ bounded h m u cost stamp = bounded_passed m u cost (max stamp h.flow.at_ms) (jud
 -- THE JUDGEMENT: the first question answered no gives its number and nothing changes; an unbounded relay admits, and nothing changes
 unfoldable pub judge : Shedder → Memory → unit.Unit → List ℕ → ℕ → Judged
 judge h m u cost stamp =
-    cond (eqb (judge_asked h (length m.rows.tags) (length m.rows.units) (length m.rows.uses) (length m.counted) cost stamp) 0)
+    cond (eqb (judge_asked h (sizes_of m.rows m.counted) cost stamp) 0)
     (cond (is_unbounded h.flow.rate) (judge_ends (Ok verdict.Admitted) h m) (bounded h m u cost stamp))
-    (judge_ends (refused (judge_asked h (length m.rows.tags) (length m.rows.units) (length m.rows.uses) (length m.counted) cost stamp)) h m)
+    (judge_ends (refused (judge_asked h (sizes_of m.rows m.counted) cost stamp)) h m)
 
 -- ---- THE RULE that decides it (document 02, K1): a refused judgement has none; an unbounded relay admits with a want of 0
 unfoldable pub bounded_ruling : Shedder → Rows → unit.Unit → List ℕ → ℕ → Option Rule
@@ -144,5 +145,5 @@ bounded_ruling h m u cost stamp = Some (ruled h m u (flow.numbers cost) (max sta
 
 unfoldable pub ruling : Shedder → Memory → unit.Unit → List ℕ → ℕ → Option Rule
 ruling h m u cost stamp =
-    cond (eqb (judge_asked h (length m.rows.tags) (length m.rows.units) (length m.rows.uses) (length m.counted) cost stamp) 0)
+    cond (eqb (judge_asked h (sizes_of m.rows m.counted) cost stamp) 0)
     (cond (is_unbounded h.flow.rate) (Some (rule_kind.Admitted nothing)) (bounded_ruling h m.rows u cost stamp)) None

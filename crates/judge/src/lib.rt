@@ -3,7 +3,7 @@
 
 ghost use Rattle.std.specs.Prelude.{◌≡◌, ℕ, ◌<◌, ◌≤◌, length};
 ghost use Rattle.std.specs.Option.{IfSome, unwrap_or};
-ghost use Rattle.store.specs.Held.{held, SameSlices, lent_rows, lent_sizes, of_sizes, SameLent};
+ghost use Rattle.store.specs.Held.{held, Room, SameSlices, lent_rows, lent_sizes, SameLent};
 ghost use Rattle.wants.specs.Held.{SameArrays};
 ghost use Rattle.head.specs.Answers as answers;
 ghost use Rattle.head.specs.Questions as asked;
@@ -104,9 +104,7 @@ fn judged(
     cost: [f64; DIMS],
     clock: u64,
 ) -> Passed
-    requires unit_room_in_bounds { head.unit_room ≤ length records.old.tags.now }
-    requires units_len { length records.old.units.now ≡ head.unit_room }
-    requires uses_len { length records.old.uses.now ≡ head.unit_room }
+    requires records_room { Room records.old head.unit_room }
     requires tracked_bound { head.tracked ≤ head.unit_room }
     ensures uses_after { judging.passed result (held records.new)
         ≡ judging.judged head (held records.old) named.unit cost clock }
@@ -144,7 +142,7 @@ fn bounded(
     cost: [u64; DIMS],
     stamp: u64,
 ) -> Judgement
-    requires { asked.Ready head (length lent.old.tags.now) (length lent.old.units.now) (length lent.old.uses.now) (length lent.old.counted.now) stamp }
+    requires { asked.Ready head (lent_sizes lent.old) stamp }
     ensures memory_after { judging.judgement result (lent_memory lent.new histogram.new)
         ≡ judging.bounded head (lent_memory lent.old histogram.old) named.unit cost stamp }
     ensures answer_value { answers.judge_number result.answer ≡ 0 }
@@ -160,7 +158,7 @@ fn bounded(
         uses: &mut *lent.uses,
     };
     let p = judged(head, &mut records, named, flow::numbers(cost), clock);
-    let t = cut_counts::count_verdict(p.head, lent, named.name, p.verdict, cost);
+    let t = cut_counts::count_verdict(p.head, lent, named, p.verdict, cost);
     let mut records = Records {
         tags: &mut *lent.tags,
         units: &mut *lent.units,
@@ -187,7 +185,7 @@ pub fn judge(
         (judging.judgement result (lent_memory lent.new histogram.new))
         (judging.judge head (lent_memory lent.old histogram.old) unit cost stamp) }
     ensures answer_value { answers.judge_number result.answer
-        ≡ of_sizes (asked.judge_asked head) (lent_sizes lent.old) cost stamp }
+        ≡ asked.judge_asked head (lent_sizes lent.old) cost stamp }
     ensures same_but_nan_bits_2 { SameButNanBits result.ruling
         (judging.ruling head (lent_memory lent.old histogram.old) unit cost stamp) }
     ensures slices { SameLent lent.old lent.new }

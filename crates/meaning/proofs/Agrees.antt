@@ -10,6 +10,7 @@ use Rattle.sender.specs.declared.Unit.{Unit}
 use Rattle.sender.specs.Sender.{name_of}
 use Rattle.head.specs.declared.Shedder.{Shedder}
 use Rattle.store.specs.declared.Cause.{Cause}
+use Rattle.store.specs.Held.{sizes_of}
 use Rattle.flow.specs.declared.Dim.{Dim}
 use Rattle.std.proofs.Common.{Ok}
 use Rattle.verdict.specs.declared.Verdict.TheVariants as verdict
@@ -21,7 +22,6 @@ use Rattle.head.specs.Readings.{index_of}
 use Rattle.judge.specs.Judging as judging
 use Rattle.judge.specs.Judging.{Memory, judge_ends}
 use Rattle.cut.specs.Cutting as cutting
-use Rattle.report_lines.specs.Lines.{text}
 use Rattle.report.specs.Report as reports
 use Rattle.meaning.specs.State.{after, ask}
 use Rattle.meaning.specs.Page as page
@@ -33,7 +33,7 @@ use Rattle.meaning.proofs.Bounded.{memory_whole, bounded_is, rule_is, hands_is}
 -- ---- start
 start_is : (h : Shedder) (m : Memory) (rate ceiling : List ℕ) → page.start (of h m) rate ceiling ≡ started m (start_with h m rate ceiling)
 unfolding page.start page.opened starts.start starts.opening starts.buckets starts.first_levels asked.start_asked
-start_is h m rate ceiling = rw (rates_is rate, sizes_is (of h m)) (go (asked.rates_whole rate) (asked.sizes_whole (length m.rows.tags) (length m.rows.units) (length m.rows.uses) (length m.counted)) _)
+start_is h m rate ceiling = rw (rates_is rate, sizes_is (of h m)) (go (asked.rates_whole rate) (asked.sizes_whole (sizes_of m.rows m.counted)) _)
   where
     go : (a b : Bool) (x : starts.Beginning) → ask ((1, a) ∷ (2, b) ∷ []) (λ n. after (refused n) (of h m)) (started m x) ≡ started m (cond (eqb (cond a (cond b 0 2) 1) 0) x (starts.start_ends (refused (cond a (cond b 0 2) 1)) h m.hist))
     go true true x = refl
@@ -87,7 +87,7 @@ cut_is h m u c cost =
 -- ---- report
 module _ (h : Shedder) (m : Memory) (out : List ℕ) where
   lines : List ℕ
-  lines = text h m.counted
+  lines = page.lines (of h m)
 
   asks : Bool → Bool → Bool → ℕ
   asks a b c = cond a (cond b (cond c 0 7) 4) 3
@@ -126,7 +126,7 @@ module _ (h : Shedder) (m : Memory) (out : List ℕ) where
 
   refusal_is : page.report_refusal (of h m) out ≡ asked_with h m (length out)
   unfolding page.report_refusal page.report_asks reports.report_asked asks
-  refusal_is = rw (head_is h, memory_is (of h m)) (refusal_of (asked.head_whole h) (memory_whole h m) (leb (length (text h m.counted)) (length out)))
+  refusal_is = rw (head_is h, memory_is (of h m)) (refusal_of (asked.head_whole h) (memory_whole h m) (leb (length (page.lines (of h m))) (length out)))
 
 -- ---- readings
 module _ (h : Shedder) where

@@ -8,6 +8,7 @@ use native.Mathlib.Decide.{dec_le}
 use lib.Dec.{eqb, leb, ltb, leb-zero}
 use lib.ListN.{length}
 use borrow.Author.Tests.{lt-ltb, le-ltb, le-leb, lt-leb, eqb-true}
+use Rattle.store.specs.Held.{sizes_of}
 use Rattle.head.specs.Questions as asked
 use Rattle.meaning.specs.State.{State, Shedder}
 use Rattle.meaning.specs.Page as page
@@ -55,7 +56,7 @@ same_room a b r x = go (eqb a r) refl
         none true = refl
         none false = refl
 
-pub memory_is : (s : State) → page.memory_whole s ≡ asked.memory_whole s.head (length s.rows.tags) (length s.rows.units) (length s.rows.uses) (length s.counted)
+pub memory_is : (s : State) → page.memory_whole s ≡ asked.memory_whole s.head (sizes_of s.rows s.counted)
 unfolding page.memory_whole page.records_whole asked.memory_whole asked.tags_whole
 memory_is s = simp (and_assoc, same_room)
 
@@ -66,6 +67,6 @@ kept_one c = elim (dec_le 2 c) [ yes h ↦ rw (lt-ltb 0 c (omega (arith, h)), le
     last true = refl
     last false = refl
 
-pub sizes_is : (s : State) → (page.records_whole s && page.rooms_whole (length s.rows.units) (length s.counted)) ≡ asked.sizes_whole (length s.rows.tags) (length s.rows.units) (length s.rows.uses) (length s.counted)
+pub sizes_is : (s : State) → (page.records_whole s && page.rooms_whole (length s.rows.units) (length s.counted)) ≡ asked.sizes_whole (sizes_of s.rows s.counted)
 unfolding page.records_whole page.rooms_whole asked.sizes_whole asked.tags_whole asked.rooms_whole
 sizes_is s = simp (below_is, leb-zero, and_assoc, kept_one)

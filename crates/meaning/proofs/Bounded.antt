@@ -4,12 +4,12 @@ use mathlib.Core.Bool.{Bool, true, false, cond, not, ◌&&◌}
 use mathlib.Core.List.{List, [], ◌∷◌}
 use Prim.Native.Nat.{ℕ, max}
 use lib.Dec.{eqb}
-use lib.ListN.{length}
 use Rattle.flow.specs.Flow.{numbers}
 use Rattle.sender.specs.declared.Unit.{Unit}
 use Rattle.sender.specs.Sender.{name_of}
 use Rattle.head.specs.declared.Shedder.{Shedder}
 use Rattle.store.specs.declared.Cause.{Cause}
+use Rattle.store.specs.Held.{sizes_of}
 use Rattle.std.proofs.Common.{None}
 use Rattle.head.specs.Questions as asked
 use Rattle.head.specs.Readings.{index_of}
@@ -26,7 +26,7 @@ use Rattle.meaning.proofs.Judged.{judged_is, ruled_is, passed, told_is, tallied,
 
 -- question 4, as the contracts ask it
 abbrev pub memory_whole : Shedder → Memory → Bool
-memory_whole h m = asked.memory_whole h (length m.rows.tags) (length m.rows.units) (length m.rows.uses) (length m.counted)
+memory_whole h m = asked.memory_whole h (sizes_of m.rows m.counted)
 
 -- ---- judge
 pub bounded_is : (h : Shedder) (m : Memory) (u : Unit) (cost : List ℕ) (stamp : ℕ) → page.bounded (of h m) u cost stamp ≡ judged (judging.bounded h m u cost stamp)

@@ -23,7 +23,7 @@ use Rattle.sender.specs.declared.Unit.{Unit}
 use Rattle.sender.specs.declared.Name.{Name}
 use Rattle.sender.specs.Sender.{name_of, hash_of, is_overflow}
 use Rattle.store.specs.Store as store
-use Rattle.store.specs.Store.{rows}
+use Rattle.store.specs.Store.{with_tags}
 use Rattle.cut_sources.specs.Counted as counts
 use Rattle.head.specs.declared.Flow.{Flow}
 use Rattle.store_entry.specs.Entering as entering
@@ -48,14 +48,14 @@ entry-is s u now = go (is_overflow u) (ltb (store.find s.rows.tags s.rows.units 
     go false false true w x y z = refl
     go false false false w x y z = refl
 
-pub used_is : (s : State) (i : ℕ) → page.used_at s i ≡ entering.used_at s.rows.units s.rows.uses s.head.overflow i
+pub used_is : (s : State) (i : ℕ) → page.used_at s i ≡ entering.used_at s.rows s.head.overflow i
 unfolding page.used_at entering.used_at
 used_is s i = refl
 
 abbrev pub backed : State → entering.Back → State
-backed s b = with_rows (with_head s (headed s.head s.head.flow b.overflow s.head.tracked)) (rows s.rows.tags b.units b.uses)
+backed s b = with_rows (with_head s (headed s.head s.head.flow b.overflow s.head.tracked)) b.rows
 
-pub back_is : (s : State) (i : ℕ) (u : Use) → page.put_back s i u ≡ backed s (entering.put_back s.rows.units s.rows.uses s.head.overflow i u)
+pub back_is : (s : State) (i : ℕ) (u : Use) → page.put_back s i u ≡ backed s (entering.put_back s.rows s.head.overflow i u)
 unfolding page.put_back entering.put_back
 back_is s i u = go (ltb i (length s.rows.units)) _ _
   where
@@ -110,7 +110,7 @@ judged_is s u cost now =
     let h = s.head in
     let e = entering.entry s.rows h.tracked h.unit_room u now in
     let t = (entered s e).state in
-    let used = entering.used_at e.rows.units e.rows.uses h.overflow e.place.at in
+    let used = entering.used_at e.rows h.overflow e.place.at in
     let rank = judging.rank_at (hash_of u) e.place.at h.unit_room in
     let o = judging.outcome h.flow h.level used rank cost now in
     rw (entry-is s u now, used_is t e.place.at, outcome_is h.flow h.level used rank cost now, admitted_is o.verdict h.flow.admitted cost)
@@ -142,12 +142,12 @@ ruled_is s u cost now =
     let h = s.head in
     let e = entering.entry s.rows h.tracked h.unit_room u now in
     let t = (entered s e).state in
-    let used = entering.used_at e.rows.units e.rows.uses h.overflow e.place.at in
+    let used = entering.used_at e.rows h.overflow e.place.at in
     rw (entry-is s u now, used_is t e.place.at, rule_is h.flow h.level used (judging.rank_at (hash_of u) e.place.at h.unit_room) cost now) refl
 
 -- ---- the count
 abbrev pub tallied : State → counting.Tally → State
-tallied s t = record { head = t.head; rows = rows t.tags s.rows.units s.rows.uses; hist = s.hist; counted = t.counted }
+tallied s t = record { head = t.head; rows = with_tags s.rows t.tags; hist = s.hist; counted = t.counted }
 
 abbrev pub tally_of : State → counting.Tally
 tally_of s = counting.tally s.head s.rows.tags s.counted
@@ -174,5 +174,5 @@ handed_is s u cost =
     let h = s.head in
     let e = entering.entry s.rows h.tracked h.unit_room u h.flow.at_ms in
     let t = (entered s e).state in
-    let used = entering.used_at e.rows.units e.rows.uses h.overflow e.place.at in
+    let used = entering.used_at e.rows h.overflow e.place.at in
     rw (entry-is s u h.flow.at_ms, used_is t e.place.at, back_is (with_flow t (cutting.flowed_back h.flow cost)) e.place.at (flow.handed_back used cost)) refl

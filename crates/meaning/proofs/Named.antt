@@ -1,7 +1,7 @@
 -- The record that a judgement or a cut uses names the unit. Assumes nothing.
 use mathlib.Core.Path.{◌≡◌, refl, sym, ap, ◌∙◌, subst}
 use mathlib.Core.Bool.{Bool, true, false, cond}
-use mathlib.Core.Logic.{◌⊎◌, ⊎_elim}
+use mathlib.Core.Logic.{⊎_elim}
 use mathlib.Core.List.{List}
 use Prim.Native.Nat.{ℕ, ◌+◌, ◌<◌}
 use native.Mathlib.Omega.{arith}
@@ -13,7 +13,8 @@ use Rattle.flow.specs.Flow as flow
 use Rattle.sender.specs.declared.Words.{Words}
 use Rattle.sender.specs.Sender.{name_of, is_overflow, rank}
 use Rattle.store.specs.Store as store
-use Rattle.store.specs.Store.{Rows, rows, name_at, record_at}
+use Rattle.store.specs.Held.{sizes_of}
+use Rattle.store.specs.Store.{Rows, name_at, record_at}
 use Rattle.store.proofs.Names.{words_put}
 use Rattle.store.proofs.Places.{put_other, record_same}
 use Rattle.store_entry.specs.Entering as entering
@@ -40,8 +41,8 @@ pub record InItsRecord (s : State) (u : Unit) (x : After ℕ) : Type 0 where
 fits : (s : State) (u : Unit) → Tracked s u → Fits s.rows s.head.tracked s.head.unit_room
 fits s u w =
     let h = s.head in
-    let m = memory_of h (length s.rows.tags) (length s.rows.units) (length s.rows.uses) (length s.counted) (sym (memory_is s) ∙ w.memory) in
-    record { tags = omega (arith, m.0); units = m.1; used = (whole_of h (sym (head_is h) ∙ w.head)).tracked_held }
+    let m = memory_of h (sizes_of s.rows s.counted) (sym (memory_is s) ∙ w.memory) in
+    record { tags = omega (arith, m.tags); units = m.units; used = (whole_of h (sym (head_is h) ∙ w.head)).tracked_held }
 
 entry_long : (m : Rows) (tracked room : ℕ) (u : Unit) (clock : ℕ) → length (entering.entry m tracked room u clock).rows.units ≡ length m.units
 unfolding entering.entry store.added
@@ -91,7 +92,7 @@ module _ (s : State) (u : Unit) (clock : ℕ) (w : Tracked s u) where
       ⊎_elim (λ (h : Has s.rows tracked (name_of u)). found_own h) (λ (n : Has s.rows tracked (name_of u) → ⊥). added_own n l) (has_or_not s.rows tracked (name_of u))) w.found_or_added)
 
 -- ---- the use put back there
-put_rows : (y : State) (i : ℕ) (x : Use) → i < length y.rows.units → (page.put_back y i x).rows ≡ rows y.rows.tags (store.units_put y.rows.units i x) (store.uses_put y.rows.uses i x)
+put_rows : (y : State) (i : ℕ) (x : Use) → i < length y.rows.units → (page.put_back y i x).rows ≡ store.put y.rows i x
 unfolding page.put_back
 put_rows y i x h = simp (lt-ltb i (length y.rows.units) h)
 
@@ -102,16 +103,17 @@ put_overflow y i x h = simp (lt-ltb i (length y.rows.units) h)
 -- y is the state entered, with other flow
 uses : (s : State) (u : Unit) (clock : ℕ) (next : Use → Use) (w : Tracked s u) (y : State) (x : Use)
     → y.rows ≡ (entered s u clock).rows → y.head.overflow ≡ (entered s u clock).head.overflow → x ≡ next (use_in (entered s u clock) (place s u clock)) → Uses s u clock next (page.put_back y (place s u clock) x)
+unfolding store.put
 uses s u clock next w y x p q r =
     let i = place s u clock in
     let t = entered s u clock in
     let f = in_its_record s u clock w in
     let m = t.rows in
     let long : i < length y.rows.units = subst (λ (a : Rows). i < length a.units) (sym p) f.below in
-    let put = put_rows y i x long ∙ ap (λ (a : Rows). rows a.tags (store.units_put a.units i x) (store.uses_put a.uses i x)) p in
+    let put = put_rows y i x long ∙ ap (λ (a : Rows). store.put a i x) p in
     record {
       named =
-          ap (λ (a : Rows). name_at a.tags a.units i) put ∙ ap (λ (v : Words). record { tag = get_or m.tags i 0; words = v }) (words_put m.units i x f.below) ∙ f.named;
+          ap (λ (a : Rows). name_at a.tags a.units i) put ∙ ap (λ (v : Words). record { tag = get_or m.tags i 0; words = v }) (words_put m i x f.below) ∙ f.named;
       put_back = put ∙ sym (put_rows t i x f.below) ∙ ap (λ (z : Use). (page.put_back t i z).rows) r;
       others = λ j n. ap (λ (a : Rows). record_at a j) put ∙ record_same _ j m j (put_other m i x j n) ∙ f.others j n;
       overflow = put_overflow y i x long ∙ q ∙ f.overflow;

@@ -16,7 +16,6 @@ use Rattle.head.proofs.Numbers.{refused_number}
 use Rattle.flow.specs.Flow.{dim_of}
 use Rattle.head.specs.Readings.{index_of}
 use Rattle.judge.specs.Judging.{answer_of}
-use Rattle.report_lines.specs.Lines.{text}
 use Rattle.meaning.specs.State.{State, After, after, Shedder, Unit, Cause, Dim, Begin, Answer, Done, ask, ◌!◌, ◌#◌}
 use Rattle.meaning.specs.Page as page
 use Rattle.meaning.specs.Numbered.{among, Numbered}
@@ -86,7 +85,7 @@ cut s u c cost = cut_0 s _ ((3, page.head_whole s.head) ∷ (4, page.memory_whol
 report : (s : State) (out : List ℕ) → among (written_number (page.report s out).answer) (0 ∷ 3 ∷ 4 ∷ 7 ∷ []) ≡ true
 unfolding page.report page.report_asks numbers_of held answer_number
 report s out =
-    let lines = text s.head s.counted in
+    let lines = page.lines s in
     asked (λ (r : page.Reported). written_number r.answer) (λ n. record { answer = refused n; front = []; out = out })
     (record { answer = Ok (length lines); front = lines; out = lines ++ drop (length lines) out }) (page.report_asks s out) (refused_number ℕ) refl refl
 

@@ -11,6 +11,7 @@ use Rattle.ieee.specs.Doubles.{nothing}
 use Rattle.flow.specs.Flow.{numbers}
 use Rattle.sender.specs.declared.Unit.TheVariants as units
 use Rattle.sender.specs.Sender.{rank}
+use Rattle.store.specs.Held.{sizes_of}
 use Rattle.verdict.specs.declared.Rule.TheVariants as rules
 use Rattle.verdict.specs.Rules.{verdict_of}
 use Rattle.verdict.proofs.Says.{tells, judges}
@@ -54,7 +55,7 @@ unfolding page.ruled page.used_at page.ranked
 shared s u cost clock w e =
     let room = s.head.unit_room in
     let long : length s.rows.units ≡ room =
-    (memory_of s.head (length s.rows.tags) (length s.rows.units) (length s.rows.uses) (length s.counted) (sym (memory_is s) ∙ w)).1 in
+    (memory_of s.head (sizes_of s.rows s.counted) (sym (memory_is s) ∙ w)).units in
     rw (e, long, le-ltb room room (omega arith)) refl
 
 -- ---- of a call

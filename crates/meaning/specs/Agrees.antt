@@ -1,6 +1,7 @@
 -- The page says what the contracts of the program say: each call's definition there, on head and memory, is the page's on the state of both. Statement only; proofs/Agrees proves it.
 use Rattle.std.specs.Prelude.{ℕ, ◌≡◌, List, length}
 use Rattle.wants.specs.Wants.{Hist}
+use Rattle.store.specs.Held.{sizes_of}
 use Rattle.head.specs.Start as starts
 use Rattle.head.specs.Readings as readings
 use Rattle.judge.specs.Judging as judging
@@ -24,16 +25,16 @@ abbrev pub cut : Hist → cutting.Cut → After Done
 cut g c = after c.answer (record { head = c.head; rows = c.rows; hist = g; counted = c.counted })
 
 abbrev pub start_with : Shedder → Memory → (rate ceiling : List ℕ) → starts.Beginning
-start_with h m rate ceiling = starts.start h (length m.rows.tags) (length m.rows.units) (length m.rows.uses) (length m.counted) m.hist rate ceiling
+start_with h m rate ceiling = starts.start h (sizes_of m.rows m.counted) m.hist rate ceiling
 
 abbrev pub report_with : Shedder → Memory → (out : List ℕ) → reports.Ends
-report_with h m out = reports.report h (length m.rows.tags) (length m.rows.units) (length m.rows.uses) m.counted out
+report_with h m out = reports.report h m.rows m.counted out
 
 abbrev pub front_with : Shedder → Memory → (room : ℕ) → List ℕ
-front_with h m room = reports.front h (length m.rows.tags) (length m.rows.units) (length m.rows.uses) m.counted room
+front_with h m room = reports.front h m.rows m.counted room
 
 abbrev pub asked_with : Shedder → Memory → (room : ℕ) → ℕ
-asked_with h m room = reports.report_asked h (length m.rows.tags) (length m.rows.units) (length m.rows.uses) m.counted room
+asked_with h m room = reports.report_asked h m.rows m.counted room
 
 pub record Agrees : Type 0 where
   pub start_is : (h : Shedder) (m : Memory) (rate ceiling : List ℕ) → page.start (of h m) rate ceiling ≡ started m (start_with h m rate ceiling)

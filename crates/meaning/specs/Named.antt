@@ -22,7 +22,7 @@ abbrev pub name_in : State → (i : ℕ) → Name
 name_in s i = name_at s.rows.tags s.rows.units i
 
 abbrev pub use_in : State → (i : ℕ) → Use
-use_in s i = store.use_at s.rows.units s.rows.uses i
+use_in s i = store.use_at s.rows i
 
 -- questions 3 and 4 are answered yes; the unit is not overflow; it has a record, or there is room for one
 pub record Tracked (s : State) (u : Unit) : Type 0 where

@@ -16,7 +16,7 @@ use Rattle.verdict.specs.Rules.{lacking}
 use Rattle.sender.specs.declared.Unit.TheVariants as units
 use Rattle.sender.specs.Sender.{name_of, is_overflow, rank}
 use Rattle.store.specs.Store as store
-use Rattle.store.specs.Store.{rows}
+use Rattle.store.specs.Store.{with_tags}
 use Rattle.store_retain.specs.Retain.{retained}
 use Rattle.wants.specs.Wants as wants
 use Rattle.cut_sources.specs.Counted as counts
@@ -160,12 +160,11 @@ entry s u clock =
     (after room s)))
 
 unfoldable pub used_at : State → (place : ℕ) → Use
-used_at s i = cond (i <? length s.rows.units) (store.use_at s.rows.units s.rows.uses i) s.head.overflow
+used_at s i = cond (i <? length s.rows.units) (store.use_at s.rows i) s.head.overflow
 
 unfoldable pub put_back : State → (place : ℕ) → Use → State
 put_back s i u =
-    cond (i <? length s.rows.units) (with_rows s (rows s.rows.tags (store.units_put s.rows.units i u) (store.uses_put s.rows.uses i u)))
-    (with_overflow s u)
+    cond (i <? length s.rows.units) (with_rows s (store.put s.rows i u)) (with_overflow s u)
 
 -- ==== The verdict (document 01: the verdict, `Bucket`, `judged`)
 -- a want up to 1 is asked for credit, then for tokens; a larger one for both and for the reserve, and is over share where one lacks
@@ -265,7 +264,7 @@ counted s name cause receptions =
     let kept = cond fits more (counts.prune more.rows k more.count) in
     let kept_tags = cond fits tags (counts.prune_tags tags more.rows k more.count) in
     let head = added s.head kept.count cause receptions in
-    record { head = head; rows = rows (take room s.rows.tags ++ kept_tags) s.rows.units s.rows.uses; hist = s.hist; counted = kept.rows }
+    record { head = head; rows = with_tags s.rows (take room s.rows.tags ++ kept_tags); hist = s.hist; counted = kept.rows }
 
 -- ==== The scan and the level (document 01: the level, `scanned`, `trimmed`)
 -- where no scan runs and the last one began 500 ms ago or earlier, one begins at the clock, over 64 tables and an empty histogram
@@ -383,12 +382,16 @@ pub record Reported : Type 0 where
   pub front : List ℕ
   pub out : List ℕ
 
+-- the whole text. The tags of the counted sources stand behind those of the unit records
+abbrev pub lines : State → List ℕ
+lines s = text s.head (drop s.head.unit_room s.rows.tags) s.counted
+
 unfoldable pub report_asks : State → (out : List ℕ) → List (ℕ × Bool)
-report_asks s out = (3, head_whole s.head) ∷ (4, memory_whole s) ∷ (7, length (text s.head s.counted) <=? length out) ∷ []
+report_asks s out = (3, head_whole s.head) ∷ (4, memory_whole s) ∷ (7, length (lines s) <=? length out) ∷ []
 
 unfoldable pub report : State → (out : List ℕ) → Reported
 report s out =
-    let page = text s.head s.counted in
+    let page = lines s in
     ask (report_asks s out)
     (λ n. record { answer = refused n; front = []; out = out })
     (record { answer = Ok (length page); front = page; out = page ++ drop (length page) out })

@@ -13,7 +13,8 @@ use Rattle.flow.specs.Flow.{dims}
 use Rattle.head.specs.declared.Shedder.{Shedder}
 use Rattle.head.specs.Questions.{is_unbounded}
 use Rattle.cut_sources.specs.Counted.{counts_at}
-use Rattle.report_ranking.specs.Sources.{first_after, named, label_at, unit_at, SOURCES_REPORTED, reported}
+use Rattle.store.specs.Store.{unit_at}
+use Rattle.report_ranking.specs.Sources.{first_after, named, label_at, SOURCES_REPORTED, reported}
 use Rattle.report_lines.specs.Lines.{rate, ceiling, active, receiver_ceiling, over_share, relay_rate, numbers, line, rates_line, cause_line, source_line, source_lines, head_lines, head_most, text}
 
 joined_append : (xs ys : List (List ℕ)) → length (joined (xs ++ ys)) ≡ length (joined xs) + length (joined ys)
@@ -41,22 +42,22 @@ rates_short w true xs h = omega (arith, length-append w (32 ∷ 110 ∷ 111 ∷ 
 rates_short w false xs h = line_short w xs
 
 -- ---- the sources
-source_short : (rows : List (List ℕ)) (i : ℕ) → length (joined (source_line rows i)) ≤ 139
+source_short : (tags : List ℕ) (rows : List (List ℕ)) (i : ℕ) → length (joined (source_line tags rows i)) ≤ 139
 unfolding source_line counts_at
-source_short rows i =
-    omega (arith, front (115 ∷ 111 ∷ 117 ∷ 114 ∷ 99 ∷ 101 ∷ []) ((32 ∷ []) ∷ line (label_at rows i) (counts_at rows i)), front (32 ∷ []) (line (label_at rows i) (counts_at rows i)), line_short (label_at rows i) (counts_at rows i), label_short (unit_at rows i))
+source_short tags rows i =
+    omega (arith, front (115 ∷ 111 ∷ 117 ∷ 114 ∷ 99 ∷ 101 ∷ []) ((32 ∷ []) ∷ line (label_at tags rows i) (counts_at rows i)), front (32 ∷ []) (line (label_at tags rows i) (counts_at rows i)), line_short (label_at tags rows i) (counts_at rows i), label_short (unit_at tags rows i))
 
-sources_short : (rows : List (List ℕ)) (is : List ℕ) → length (joined (source_lines rows is)) ≤ 139 * length is
+sources_short : (tags : List ℕ) (rows : List (List ℕ)) (is : List ℕ) → length (joined (source_lines tags rows is)) ≤ 139 * length is
 unfolding source_lines joined
-sources_short rows [] = omega arith
-sources_short rows (i ∷ is) = omega (arith, joined_append (source_line rows i) (source_lines rows is), source_short rows i, sources_short rows is)
+sources_short tags rows [] = omega arith
+sources_short tags rows (i ∷ is) = omega (arith, joined_append (source_line tags rows i) (source_lines tags rows is), source_short tags rows i, sources_short tags rows is)
 
-pub named_short : (rows : List (List ℕ)) (n k p : ℕ) → length (named rows n k p) ≤ k
+pub named_short : (tags : List ℕ) (rows : List (List ℕ)) (n k p : ℕ) → length (named tags rows n k p) ≤ k
 unfolding named
-named_short rows n zero p = omega arith
-named_short rows n (suc k) p = shorter (eqb (first_after rows n p n) n) _ (named_short rows n k (first_after rows n p n))
+named_short tags rows n zero p = omega arith
+named_short tags rows n (suc k) p = shorter (eqb (first_after tags rows n p n) n) _ (named_short tags rows n k (first_after tags rows n p n))
   where
-    shorter : (t : Bool) (l : List ℕ) → length l ≤ k → length (cond t [] (first_after rows n p n ∷ l)) ≤ suc k
+    shorter : (t : Bool) (l : List ℕ) → length l ≤ k → length (cond t [] (first_after tags rows n p n ∷ l)) ≤ suc k
     shorter true l h = omega arith
     shorter false l h = omega arith
 
@@ -86,12 +87,12 @@ head_short h rates ceilings =
       line_short relay_rate (get_or h.batches 2 0 ∷ get_or h.receptions 2 0 ∷ []),
     )
 
-pub text_short : (h : Shedder) (rows : List (List ℕ)) → length (joined (head_lines h)) ≤ head_most → length (text h rows) ≤ head_most + SOURCES_REPORTED * 139
+pub text_short : (h : Shedder) (tags : List ℕ) (rows : List (List ℕ)) → length (joined (head_lines h)) ≤ head_most → length (text h tags rows) ≤ head_most + SOURCES_REPORTED * 139
 unfolding text
-text_short h rows short =
+text_short h tags rows short =
     omega (
       arith,
-      joined_append (head_lines h) (source_lines rows (reported rows h.counted)),
-      sources_short rows (reported rows h.counted),
-      named_short rows h.counted SOURCES_REPORTED h.counted,
+      joined_append (head_lines h) (source_lines tags rows (reported tags rows h.counted)),
+      sources_short tags rows (reported tags rows h.counted),
+      named_short tags rows h.counted SOURCES_REPORTED h.counted,
     )

@@ -65,12 +65,12 @@ rates_line word unbounded xs = cond unbounded (word ∷ space ∷ none ∷ line_
 unfoldable pub cause_line : List ℕ → ℕ → Shedder → List (List ℕ)
 cause_line word i h = line word (get_or h.batches i 0 ∷ get_or h.receptions i 0 ∷ [])
 
-unfoldable pub source_line : List (List ℕ) → ℕ → List (List ℕ)
-source_line rows i = source ∷ space ∷ line (label_at rows i) (counts_at rows i)
+unfoldable pub source_line : List ℕ → List (List ℕ) → ℕ → List (List ℕ)
+source_line tags rows i = source ∷ space ∷ line (label_at tags rows i) (counts_at rows i)
 
-unfoldable pub source_lines : List (List ℕ) → List ℕ → List (List ℕ)
-source_lines rows [] = []
-source_lines rows (i ∷ is) = source_line rows i ++ source_lines rows is
+unfoldable pub source_lines : List ℕ → List (List ℕ) → List ℕ → List (List ℕ)
+source_lines tags rows [] = []
+source_lines tags rows (i ∷ is) = source_line tags rows i ++ source_lines tags rows is
 
 unfoldable pub head_lines : Shedder → List (List ℕ)
 head_lines h =
@@ -86,6 +86,6 @@ head_lines h =
 abbrev pub head_most : ℕ
 head_most = 2 * (8 + 21 * dims) + 193
 
--- THE TEXT of a report: of the head and the counted rows
-unfoldable pub text : Shedder → List (List ℕ) → List ℕ
-text h rows = joined (head_lines h ++ source_lines rows (reported rows h.counted))
+-- THE TEXT of a report: of the head and the counted sources
+unfoldable pub text : Shedder → List ℕ → List (List ℕ) → List ℕ
+text h tags rows = joined (head_lines h ++ source_lines tags rows (reported tags rows h.counted))

@@ -5,14 +5,15 @@ ghost use Rattle.std.specs.Prelude.{◌≡◌, ◌<◌, ◌≤◌, length, take}
 ghost use Rattle.io.specs.Counts.{IsPrefixLen};
 ghost use Rattle.text.specs.Page.{page, placed, writes, joined};
 ghost use Rattle.store.specs.Causes.{index_of};
-ghost use Rattle.report_ranking.specs.Sources as sources;
+ghost use Rattle.report_ranking.specs.Sources as ranking;
 ghost use Rattle.report_lines.specs.Lines as lines;
 ghost use Rattle.text.specs.Pages.{seen};
 
+use cut_sources::SourcesRead;
 use flow::DIMS;
 use head::Shedder;
 use label::LABEL_MOST;
-use report_ranking::{SOURCES_REPORTED, first_after, unit_at};
+use report_ranking::{SOURCES_REPORTED, first_after};
 use store::{CAUSES, Cause, SourceRow};
 use text::Page;
 
@@ -89,46 +90,55 @@ fn put_head(out: &mut Page<'_>, head: Shedder)
 }
 
 #[tactic(auto, using(crate::proofs::Writing::source_put))]
-fn put_source(out: &mut Page<'_>, counted: &[SourceRow], i: usize)
-    requires { i < length counted.now }
+fn put_source(out: &mut Page<'_>, sources: &SourcesRead<'_>, i: usize)
+    requires i_in_bounds { i < length sources.now.tags.now }
+    requires i_in_bounds_2 { i < length sources.now.counted.now }
     ensures same_reference { out.new.out.ghost_name ≡ out.old.out.ghost_name }
-    ensures value { seen out.new ≡ writes (seen out.old) (lines.source_line counted.now i) }
+    ensures value { seen out.new ≡ writes (seen out.old) (lines.source_line sources.now.tags.now sources.now.counted.now i) }
 {
-    let counts = cut_sources::counts_at(counted, i);
+    let counts = cut_sources::counts_at(sources.counted, i);
     out.put(b"source");
     out.put(b" ");
-    label::write_label(unit_at(counted, i), out);
+    label::write_label(sources.unit_at(i), out);
     put_numbers(out, &counts);
 }
 
 // The sources named, of the first n: each the first of those after the one before.
 #[tactic(auto, using(crate::proofs::Writing::sources_next, crate::proofs::Writing::sources_none, crate::proofs::Writing::sources_end))]
-fn put_sources(out: &mut Page<'_>, counted: &[SourceRow], n: usize)
-    requires { n ≤ length counted.now }
+fn put_sources(out: &mut Page<'_>, sources: &SourcesRead<'_>, n: usize)
+    requires n_in_bounds { n ≤ length sources.now.tags.now }
+    requires n_in_bounds_2 { n ≤ length sources.now.counted.now }
     ensures same_reference { out.new.out.ghost_name ≡ out.old.out.ghost_name }
-    ensures value { seen out.new ≡ writes (seen out.old) (lines.source_lines counted.now (sources.reported counted.now n)) }
+    ensures value { seen out.new ≡ writes (seen out.old) (lines.source_lines sources.now.tags.now sources.now.counted.now (ranking.reported sources.now.tags.now sources.now.counted.now n)) }
 {
     let mut last = None;
     // So many turns: each source is found from the one before.
     for _ in 0..SOURCES_REPORTED {
-        let Some(next) = first_after(counted, n, last) else {
+        let Some(next) = first_after(sources, n, last) else {
             return;
         };
-        put_source(out, counted, next);
+        put_source(out, sources, next);
         last = Some(next);
     }
 }
 
 // The whole text at the front of own, an array of the caller's, since there is no heap; every byte behind it is as it was. The answer
-// is its length.
-pub fn write_text(head: Shedder, counted: &[SourceRow], own: &mut [u8; TEXT_MOST]) -> usize
-    requires { head.counted ≤ length counted.now }
+// is its length. The slices are parameters: of a part of a slice that is put into a `SourcesRead` in one function the check loses the
+// value.
+pub fn write_text(
+    head: Shedder,
+    tags: &[u16],
+    counted: &[SourceRow],
+    own: &mut [u8; TEXT_MOST],
+) -> usize
+    requires counted_in_bounds { head.counted ≤ length tags.now }
+    requires counted_in_bounds_2 { head.counted ≤ length counted.now }
     ensures prefix_len { IsPrefixLen result own.new }
-    ensures own_after { take result own.new ≡ lines.text head counted.now }
-    ensures result_after { page own.new result ≡ placed (page own.old 0) (lines.text head counted.now) }
+    ensures own_after { take result own.new ≡ lines.text head tags.now counted.now }
+    ensures result_after { page own.new result ≡ placed (page own.old 0) (lines.text head tags.now counted.now) }
 {
     let mut out = Page::at_front(own);
     put_head(&mut out, head);
-    put_sources(&mut out, counted, head.counted);
+    put_sources(&mut out, &SourcesRead { tags, counted }, head.counted);
     out.at
 }

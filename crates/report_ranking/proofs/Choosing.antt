@@ -11,34 +11,34 @@ use Rattle.store.specs.Found.{found}
 use Rattle.store.proofs.Found.{some_found, none_found}
 use Rattle.report_ranking.specs.Sources.{precedes, is_after, earlier, better, first_after}
 
-pub after_none : (rows : List (List ℕ)) (n i : ℕ) → true ≡ is_after rows n n i
+pub after_none : (tags : List ℕ) (rows : List (List ℕ)) (n i : ℕ) → true ≡ is_after tags rows n n i
 unfolding is_after
-after_none rows n i = simp (eq-eqb n n refl)
+after_none tags rows n i = simp (eq-eqb n n refl)
 
-pub after_some : (rows : List (List ℕ)) (n q i : ℕ) → q < n → precedes rows q i ≡ is_after rows n q i
+pub after_some : (tags : List ℕ) (rows : List (List ℕ)) (n q i : ℕ) → q < n → precedes tags rows q i ≡ is_after tags rows n q i
 unfolding is_after
-after_some rows n q i h = simp (ne_eqb q n (λ e. omega arith))
+after_some tags rows n q i h = simp (ne_eqb q n (λ e. omega arith))
 
-module _ (rows : List (List ℕ)) (n p b i : ℕ) where
-  pub better_skip : is_after rows n p i ≡ false → b ≡ better rows n p b i
+module _ (tags : List ℕ) (rows : List (List ℕ)) (n p b i : ℕ) where
+  pub better_skip : is_after tags rows n p i ≡ false → b ≡ better tags rows n p b i
   unfolding better
   better_skip e = simp e
 
-  pub better_new : is_after rows n p i ≡ true → b < n → precedes rows i b ≡ true → i ≡ better rows n p b i
+  pub better_new : is_after tags rows n p i ≡ true → b < n → precedes tags rows i b ≡ true → i ≡ better tags rows n p b i
   unfolding better earlier
   better_new e h f = simp (e, ne_eqb b n (λ q. omega arith), f)
 
-  pub better_old : b < n → precedes rows i b ≡ false → b ≡ better rows n p b i
+  pub better_old : b < n → precedes tags rows i b ≡ false → b ≡ better tags rows n p b i
   unfolding better earlier
-  better_old h f = simp (ne_eqb b n (λ q. omega arith), f) (either (is_after rows n p i))
+  better_old h f = simp (ne_eqb b n (λ q. omega arith), f) (either (is_after tags rows n p i))
     where
       either : (t : Bool) → b ≡ cond t b b
       either true = refl
       either false = refl
 
-pub better_none : (rows : List (List ℕ)) (n p i : ℕ) → is_after rows n p i ≡ true → i ≡ better rows n p n i
+pub better_none : (tags : List ℕ) (rows : List (List ℕ)) (n p i : ℕ) → is_after tags rows n p i ≡ true → i ≡ better tags rows n p n i
 unfolding better earlier
-better_none rows n p i e = simp (e, eq-eqb n n refl)
+better_none tags rows n p i e = simp (e, eq-eqb n n refl)
 
 -- a place below n, or none, is found where it is
 pub found_again : (n : ℕ) (o : Option ℕ) → IfSome o (λ i. i < n) → o ≡ found n (unwrap_or o n)
@@ -52,7 +52,7 @@ at_most true false true b m n h g = g
 at_most true false false b m n h g = h
 at_most false t u b m n h g = h
 
-pub first_after_bound : (rows : List (List ℕ)) (n p m : ℕ) → m ≤ n → first_after rows n p m ≤ n
+pub first_after_bound : (tags : List ℕ) (rows : List (List ℕ)) (n p m : ℕ) → m ≤ n → first_after tags rows n p m ≤ n
 unfolding first_after better earlier
-first_after_bound rows n p zero h = omega arith
-first_after_bound rows n p (suc m) h = at_most _ _ _ (first_after rows n p m) m n (first_after_bound rows n p m (omega arith)) (omega arith)
+first_after_bound tags rows n p zero h = omega arith
+first_after_bound tags rows n p (suc m) h = at_most _ _ _ (first_after tags rows n p m) m n (first_after_bound tags rows n p m (omega arith)) (omega arith)

@@ -83,21 +83,21 @@ tied_transitive a b c i j k (inl p) (inr (e, q)) = inl (ap (less a) (sym e) ∙ 
 tied_transitive a b c i j k (inr (e, p)) (inl q) = inl (ap (λ (l : List ℕ). less l c) e ∙ q)
 tied_transitive a b c i j k (inr (e, p)) (inr (f, q)) = inr (e ∙ f, omega arith)
 
-module _ (rows : List (List ℕ)) where
-  pub label_shows : (i j : ℕ) → label_precedes rows i j ≡ true → Tied (label_at rows i) (label_at rows j) i j
+module _ (tags : List ℕ) (rows : List (List ℕ)) where
+  pub label_shows : (i j : ℕ) → label_precedes tags rows i j ≡ true → Tied (label_at tags rows i) (label_at tags rows j) i j
   unfolding label_precedes
-  label_shows i j h = by_less (less (label_at rows i) (label_at rows j)) refl (less (label_at rows j) (label_at rows i)) refl h
+  label_shows i j h = by_less (less (label_at tags rows i) (label_at tags rows j)) refl (less (label_at tags rows j) (label_at tags rows i)) refl h
     where
-      by_less : (t : Bool) → less (label_at rows i) (label_at rows j) ≡ t → (s : Bool) → less (label_at rows j) (label_at rows i) ≡ s
-          → cond t true (cond s false (ltb i j)) ≡ true → Tied (label_at rows i) (label_at rows j) i j
+      by_less : (t : Bool) → less (label_at tags rows i) (label_at tags rows j) ≡ t → (s : Bool) → less (label_at tags rows j) (label_at tags rows i) ≡ s
+          → cond t true (cond s false (ltb i j)) ≡ true → Tied (label_at tags rows i) (label_at tags rows j) i j
       by_less true e s f h = inl e
       by_less false e true f h = absurd (false≢true h)
-      by_less false e false f h = inr (less_connected (label_at rows i) (label_at rows j) e f, ltb-true i j h)
+      by_less false e false f h = inr (less_connected (label_at tags rows i) (label_at tags rows j) e f, ltb-true i j h)
 
-  pub label_shown : (i j : ℕ) → Tied (label_at rows i) (label_at rows j) i j → label_precedes rows i j ≡ true
+  pub label_shown : (i j : ℕ) → Tied (label_at tags rows i) (label_at tags rows j) i j → label_precedes tags rows i j ≡ true
   unfolding label_precedes
   label_shown i j (inl h) = simp h
   label_shown i j (inr (e, h)) =
-      let f : less (label_at rows i) (label_at rows j) ≡ false = ap (less (label_at rows i)) (sym e) ∙ less_irreflexive (label_at rows i) in
-      let g : less (label_at rows j) (label_at rows i) ≡ false = ap (less (label_at rows j)) e ∙ less_irreflexive (label_at rows j) in
+      let f : less (label_at tags rows i) (label_at tags rows j) ≡ false = ap (less (label_at tags rows i)) (sym e) ∙ less_irreflexive (label_at tags rows i) in
+      let g : less (label_at tags rows j) (label_at tags rows i) ≡ false = ap (less (label_at tags rows j)) e ∙ less_irreflexive (label_at tags rows j) in
       simp (f, g, lt-ltb i j h)

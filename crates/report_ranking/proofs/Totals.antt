@@ -12,19 +12,19 @@ use Rattle.report_ranking.specs.Sources.{label_precedes, precedes}
 use Rattle.report_ranking.specs.Laws.{Before}
 use Rattle.report_ranking.proofs.Ties.{label_shows, label_shown}
 
-module _ (rows : List (List ℕ)) where
-  pub shows : (i j : ℕ) → precedes rows i j ≡ true → Before rows i j
+module _ (tags : List ℕ) (rows : List (List ℕ)) where
+  pub shows : (i j : ℕ) → precedes tags rows i j ≡ true → Before tags rows i j
   unfolding precedes
   shows i j h = by_total (ltb (total_at rows j) (total_at rows i)) refl (ltb (total_at rows i) (total_at rows j)) refl h
     where
       by_total : (t : Bool) → ltb (total_at rows j) (total_at rows i) ≡ t → (s : Bool) → ltb (total_at rows i) (total_at rows j) ≡ s
-          → cond t true (cond s false (label_precedes rows i j)) ≡ true → Before rows i j
+          → cond t true (cond s false (label_precedes tags rows i j)) ≡ true → Before tags rows i j
       by_total true e s f h = inl (ltb-true (total_at rows j) (total_at rows i) e)
       by_total false e true f h = absurd (false≢true h)
-      by_total false e false f h = inr (omega (arith, ltb-false (total_at rows j) (total_at rows i) e, ltb-false (total_at rows i) (total_at rows j) f), label_shows rows i j h)
+      by_total false e false f h = inr (omega (arith, ltb-false (total_at rows j) (total_at rows i) e, ltb-false (total_at rows i) (total_at rows j) f), label_shows tags rows i j h)
 
-  pub shown : (i j : ℕ) → Before rows i j → precedes rows i j ≡ true
+  pub shown : (i j : ℕ) → Before tags rows i j → precedes tags rows i j ≡ true
   unfolding precedes
   shown i j (inl h) = simp (lt-ltb (total_at rows j) (total_at rows i) h)
   shown i j (inr (e, h)) =
-      simp (le-ltb (total_at rows j) (total_at rows i) (omega arith), le-ltb (total_at rows i) (total_at rows j) (omega arith), label_shown rows i j h)
+      simp (le-ltb (total_at rows j) (total_at rows i) (omega arith), le-ltb (total_at rows i) (total_at rows j) (omega arith), label_shown tags rows i j h)

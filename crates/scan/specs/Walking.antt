@@ -24,7 +24,7 @@ walk_overflow o table t g = cond (table == 0) (cond (flow.is_fresh o.fresh) g (w
 
 -- the record at i, where it stands in the table
 unfoldable pub walk_one : Rows → ℕ → ℕ → ℕ → Hist → Hist
-walk_one m table t i g = cond (store.in_table m.tags table i) (walk_use (store.use_at m.units m.uses i) t g) g
+walk_one m table t i g = cond (store.in_table m.tags table i) (walk_use (store.use_at m i) t g) g
 
 -- the first n records, in order of arrival
 unfoldable pub walk : Rows → ℕ → ℕ → ℕ → Hist → Hist

@@ -5,7 +5,7 @@ ghost use Rattle.flow.specs.Flow.{dims};
 ghost use Rattle.std.specs.Prelude.{◌≡◌, ℕ, ◌+◌, ◌<◌, ◌≤◌, true, false, nat_le, length};
 ghost use Rattle.sender.specs.Sender as sender;
 ghost use Rattle.head.specs.Questions as asked;
-ghost use Rattle.store.specs.Held.{held, SameSlices};
+ghost use Rattle.store.specs.Held.{held, Places, SameSlices};
 ghost use Rattle.store.specs.Store as store;
 ghost use Rattle.store_retain.specs.Retain as retain;
 ghost use Rattle.wants.specs.Held.{wants_held, SameArrays};
@@ -83,9 +83,7 @@ fn walk<F: Fn(usize) -> bool>(
     stops: F,
 ) -> usize
     requires from_le_n { from ≤ n }
-    requires n_in_bounds { n ≤ length records.now.tags.now }
-    requires n_in_bounds_2 { n ≤ length records.now.units.now }
-    requires n_in_bounds_3 { n ≤ length records.now.uses.now }
+    requires n_in_bounds { Places records.now n }
     requires callable { (i : ℕ) → i < n → F.pre stops i }
     ensures upper_bound { result ≤ n }
     ensures passed { (k : ℕ) → from ≤ k → k < result → store.in_table records.now.tags.now table k ≡ true → F.post stops k false }
@@ -113,9 +111,7 @@ fn walk_to_stale(
     table: usize,
     at_ms: u64,
 ) -> usize
-    requires n_in_bounds { n ≤ length records.now.tags.now }
-    requires n_in_bounds_2 { n ≤ length records.now.units.now }
-    requires n_in_bounds_3 { n ≤ length records.now.uses.now }
+    requires n_in_bounds { Places records.now n }
     ensures upper_bound { result ≤ n }
     ensures none { store.None (retain.is_stale records.now.tags.now records.now.units.now table at_ms) 0 result }
     ensures sums_after { wants_held histogram.new
@@ -136,9 +132,7 @@ fn walk_rest(
     at_ms: u64,
 )
     requires from_le_n { from ≤ n }
-    requires n_in_bounds { n ≤ length records.now.tags.now }
-    requires n_in_bounds_2 { n ≤ length records.now.units.now }
-    requires n_in_bounds_3 { n ≤ length records.now.uses.now }
+    requires n_in_bounds { Places records.now n }
     ensures sums_after { (g : wants.Hist)
         → wants_held histogram.old ≡ walking.walk (held records.now) table at_ms from g
         → wants_held histogram.new ≡ walking.walk (held records.now) table at_ms n g }
@@ -170,9 +164,7 @@ fn swept(
     table: usize,
     at_ms: u64,
 ) -> usize
-    requires tracked_in_bounds { tracked ≤ length records.old.tags.now }
-    requires tracked_in_bounds_2 { tracked ≤ length records.old.units.now }
-    requires tracked_in_bounds_3 { tracked ≤ length records.old.uses.now }
+    requires tracked_in_bounds { Places records.old tracked }
     ensures uses_after { retain.kept result (held records.new)
         ≡ retain.retained (held records.old) table at_ms tracked }
     ensures sums_after { wants_held histogram.new
@@ -191,9 +183,7 @@ fn swept(
 
 // The next table is visited.
 fn visit(h: &mut Shedder, records: &mut Records<'_>, histogram: &mut Histogram<'_>)
-    requires tracked_in_bounds { h.old.tracked ≤ length records.old.tags.now }
-    requires tracked_in_bounds_2 { h.old.tracked ≤ length records.old.units.now }
-    requires tracked_in_bounds_3 { h.old.tracked ≤ length records.old.uses.now }
+    requires tracked_in_bounds { Places records.old h.old.tracked }
     requires le_remaining { 1 ≤ h.old.scan.remaining }
     requires next_bound { h.old.scan.remaining + h.old.scan.next ≤ sender.«TABLES» }
     ensures sums_after { scanning.scanning h.new (held records.new) (wants_held histogram.new)
@@ -216,9 +206,7 @@ fn visit(h: &mut Shedder, records: &mut Records<'_>, histogram: &mut Histogram<'
 
 // A second visit, where a table remains.
 fn again(h: &mut Shedder, records: &mut Records<'_>, histogram: &mut Histogram<'_>)
-    requires tracked_in_bounds { h.old.tracked ≤ length records.old.tags.now }
-    requires tracked_in_bounds_2 { h.old.tracked ≤ length records.old.units.now }
-    requires tracked_in_bounds_3 { h.old.tracked ≤ length records.old.uses.now }
+    requires tracked_in_bounds { Places records.old h.old.tracked }
     requires next_bound { h.old.scan.remaining + h.old.scan.next ≤ sender.«TABLES» }
     ensures sums_after { scanning.scanning h.new (held records.new) (wants_held histogram.new)
         ≡ scanning.again (scanning.scanning h.old (held records.old) (wants_held histogram.old)) }
@@ -279,9 +267,7 @@ pub fn scanned(
     histogram: &mut Histogram<'_>,
     clock: u64,
 ) -> Shedder
-    requires tracked_in_bounds { h.tracked ≤ length records.old.tags.now }
-    requires tracked_in_bounds_2 { h.tracked ≤ length records.old.units.now }
-    requires tracked_in_bounds_3 { h.tracked ≤ length records.old.uses.now }
+    requires tracked_in_bounds { Places records.old h.tracked }
     requires began_ms_bound { h.scan.began_ms < asked.STAMP_END }
     requires next_bound { h.scan.remaining + h.scan.next ≤ sender.«TABLES» }
     ensures sums_after { scanning.scanning result (held records.new) (wants_held histogram.new)

@@ -1,5 +1,5 @@
 -- A unit's bytes, hash, rank and table, and its words in memory. Definitions only.
-use Rattle.std.specs.Prelude.{ℕ, ◌+◌, ◌*◌, ◌/◌, ◌%◌, ◌^◌, ◌<◌, min, ◌≡◌, Bool, true, false, cond, List, [], ◌∷◌, ◌++◌, eqb, ltb, Float}
+use Rattle.std.specs.Prelude.{ℕ, ◌+◌, ◌*◌, ◌/◌, ◌%◌, ◌^◌, ◌<◌, min, ◌≡◌, Bool, true, false, cond, ◌&&◌, List, [], ◌∷◌, ◌++◌, eqb, ltb, Float}
 use Rattle.std.specs.Float.{binary64}
 use Rattle.std.specs.Float.Ieee.{of_bits, to_unsigned}
 use Rattle.ieee.specs.Doubles.{◌⊗◌, ◌⊘◌, whole}
@@ -109,6 +109,18 @@ name_by_hash u hash = record { tag = tag_of_hash hash; words = words_of u }
 
 abbrev pub name_of : unit.Unit → Name
 name_of u = name_by_hash u (hash_of u)
+
+-- ---- what a record reads as
+-- raw words are compared
+unfoldable pub same : Words → Words → Bool
+same v w = eqb v.kind w.kind && eqb v.a w.a && eqb v.b w.b && eqb v.c w.c && eqb v.d w.d
+
+unfoldable pub same_name : Name → Name → Bool
+same_name m n = eqb m.tag n.tag && same m.words n.words
+
+-- WHAT A RECORD READS AS: the unit whose record has exactly this tag and these words, else overflow. Memory that the caller filled may hold any bits
+unfoldable pub reads : Name → unit.Unit
+reads n = cond (same_name (name_of (unit_of n.words)) n) (unit_of n.words) Overflow
 
 unfoldable pub is_overflow : unit.Unit → Bool
 is_overflow (Corroborated k) = false

@@ -56,6 +56,17 @@ impl From<Words> for Unit {
     }
 }
 
+// That a group's number fits it is known by its type, where the group is matched. No code.
+#[tactic(auto, unfolding(crate::specs::Sender::Ranged))]
+pub fn in_range(unit: Unit)
+    ensures { sender.Ranged unit }
+{
+    match unit {
+        Unit::Group(Group::V4(_) | Group::V6(_)) => (),
+        Unit::Corroborated(_) | Unit::NoAddress | Unit::Overflow => (),
+    }
+}
+
 // The name of a unit whose hash is known.
 #[tactic(auto, unfolding(crate::specs::Sender::name_by_hash))]
 pub fn name_by_hash(unit: Unit, hash: u64) -> Name
@@ -71,6 +82,21 @@ pub fn name_of(unit: Unit) -> Name
     ensures { result ≡ sender.name_of unit }
 {
     name_by_hash(unit, hash_of(unit))
+}
+
+// What a record reads as: the unit whose record has exactly this tag and these words, else overflow.
+impl From<Name> for Unit {
+    ghost from_gives = { λ name unit. unit ≡ sender.reads name };
+
+    #[tactic(auto, unfolding(crate::specs::Sender::reads, crate::specs::Sender::same_name, crate::specs::Sender::same))]
+    fn from(name: Name) -> Unit {
+        let unit = Unit::from(name.words);
+        if name_of(unit) == name {
+            unit
+        } else {
+            Unit::Overflow
+        }
+    }
 }
 
 // The word of a definition, in one place.

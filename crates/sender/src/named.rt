@@ -3,7 +3,7 @@ ghost use Rattle.std.specs.Prelude.{◌≡◌};
 ghost use Rattle.sender.specs.Sender as sender;
 
 use super::hash::hash_of;
-use super::memory::name_by_hash;
+use super::memory::{in_range, name_by_hash};
 use super::{Name, Unit};
 
 #[derive(Clone, Copy)]
@@ -13,13 +13,16 @@ pub struct Named {
     pub name: Name,
     pub ghost hash_is: { hash ≡ sender.hash_of unit },
     pub ghost name_is: { name ≡ sender.name_of unit },
+    pub ghost read_is: { sender.reads name ≡ unit },
 }
 
 impl Named {
+    #[tactic(auto, using(crate::proofs::Reading::read_own))]
     pub fn of(unit: Unit) -> Named
         ensures { result.unit ≡ unit }
     {
         let hash = hash_of(unit);
+        in_range(unit);
         Named {
             unit,
             hash,

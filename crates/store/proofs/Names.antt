@@ -9,30 +9,10 @@ use lib.ListN.{length, get_or, set}
 use lib.Seq.{get_or-set_same, get_or-set_other}
 use borrow.Author.Tests.{eqb-true, eq-eqb}
 use Rattle.std.proofs.lemmas.Bool.{and_parts}
+pub use Rattle.sender.proofs.Reading.{name_ext, words_same, words_self}
 use Rattle.flow.specs.declared.Use.{Use}
 use Rattle.sender.specs.declared.Name.{Name}
-use Rattle.sender.specs.declared.Words.{Words}
-use Rattle.store.specs.Store.{Rows, same, is_at, unit_row, words_at, name_at, added, units_put}
-
-words_ext : (a b c d e a' b' c' d' e' : ℕ) → a ≡ a' → b ≡ b' → c ≡ c' → d ≡ d' → e ≡ e' → ◌≡◌ {A = Words} (record { kind = a; a = b; b = c; c = d; d = e }) (record { kind = a'; a = b'; b = c'; c = d'; d = e' })
-words_ext a b c d e a' b' c' d' e' p q r s t = cc
-
-pub name_ext : (a a' : ℕ) (w w' : Words) → a ≡ a' → w ≡ w' → ◌≡◌ {A = Name} (record { tag = a; words = w }) (record { tag = a'; words = w' })
-name_ext a a' w w' p q = cc
-
-pub words_same : (v w : Words) → same v w ≡ true → v ≡ w
-unfolding same
-words_same v w e =
-    let d = and_parts _ (eqb v.d w.d) e in
-    let c = and_parts _ (eqb v.c w.c) d.0 in
-    let b = and_parts _ (eqb v.b w.b) c.0 in
-    let a = and_parts (eqb v.kind w.kind) (eqb v.a w.a) b.0 in
-    words_ext v.kind v.a v.b v.c v.d w.kind w.a w.b w.c w.d
-    (eqb-true v.kind w.kind a.0) (eqb-true v.a w.a a.1) (eqb-true v.b w.b b.1) (eqb-true v.c w.c c.1) (eqb-true v.d w.d d.1)
-
-pub words_self : (v : Words) → same v v ≡ true
-unfolding same
-words_self v = simp (eq-eqb v.kind v.kind refl, eq-eqb v.a v.a refl, eq-eqb v.b v.b refl, eq-eqb v.c v.c refl, eq-eqb v.d v.d refl)
+use Rattle.store.specs.Store.{Rows, same, is_at, unit_row, words_at, name_at, added, put}
 
 -- a record is the unit's exactly if it holds its name
 pub name_is_at : (tags : List ℕ) (units : List (List ℕ)) (name : Name) (i : ℕ) → name_at tags units i ≡ name → is_at tags units name i ≡ true
@@ -51,11 +31,11 @@ unfolding added words_at
 added_name m i name u p q = rw (get_or-set_same m.tags i name.tag 0 p, get_or-set_same m.units i _ [] q) refl
 
 -- a use put back leaves it
-pub words_put : (units : List (List ℕ)) (i : ℕ) (u : Use) → i < length units → words_at (units_put units i u) i ≡ words_at units i
-unfolding words_at units_put
-words_put units i u h =
-    let r = unit_row units i in
-    let e : get_or (set units i (set (set r 5 u.at_ms) 6 u.fresh)) i [] ≡ set (set r 5 u.at_ms) 6 u.fresh = get_or-set_same units i _ [] h in
+pub words_put : (m : Rows) (i : ℕ) (u : Use) → i < length m.units → words_at (put m i u).units i ≡ words_at m.units i
+unfolding words_at put
+words_put m i u h =
+    let r = unit_row m.units i in
+    let e : get_or (set m.units i (set (set r 5 u.at_ms) 6 u.fresh)) i [] ≡ set (set r 5 u.at_ms) 6 u.fresh = get_or-set_same m.units i _ [] h in
     let o : (k : ℕ) → k < 5 → get_or (set (set r 5 u.at_ms) 6 u.fresh) k 0 ≡ get_or r k 0 =
     λ k h. get_or-set_other (set r 5 u.at_ms) 6 k u.fresh 0 (λ q. absurd (omega arith)) ∙ get_or-set_other r 5 k u.at_ms 0 (λ q. absurd (omega arith)) in
     simp (e, o 0 (omega arith), o 1 (omega arith), o 2 (omega arith), o 3 (omega arith), o 4 (omega arith))

@@ -6,7 +6,7 @@ use lib.ListN.{length, get_or, set}
 use lib.Seq.{lt-length-set, get_or-set_same, get_or-set_other}
 use Rattle.flow.specs.declared.Use.{Use}
 use Rattle.sender.specs.declared.Name.{Name}
-use Rattle.store.specs.Store.{Rows, rows, record_at, added, units_put, uses_put}
+use Rattle.store.specs.Store.{Rows, record_at, added, put}
 
 -- what was put last at k stands there
 pub put_there : {A : Type 0} (l : List A) (i k : ℕ) (x y d : A) → k < length l → get_or (set (set l i x) k y) k d ≡ y
@@ -33,6 +33,6 @@ pub added_other : (m : Rows) (n : ℕ) (w : Name) (u : Use) (j : ℕ) → (j ≡
 unfolding Same added
 added_other m n w u j h = (rw get_or-set_other, rw get_or-set_other, rw get_or-set_other)
 
-pub put_other : (m : Rows) (i : ℕ) (u : Use) (j : ℕ) → (j ≡ i → ⊥) → Same (rows m.tags (units_put m.units i u) (uses_put m.uses i u)) j m j
-unfolding Same units_put uses_put
+pub put_other : (m : Rows) (i : ℕ) (u : Use) (j : ℕ) → (j ≡ i → ⊥) → Same (put m i u) j m j
+unfolding Same put
 put_other m i u j h = (refl, rw get_or-set_other, rw get_or-set_other)

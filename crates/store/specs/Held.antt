@@ -1,5 +1,5 @@
 -- Rows as lent slices: the lists that they hold, their sizes, and that the slices are the same ones. Definitions only.
-use Rattle.std.specs.Prelude.{ℕ, List, ◌≡◌, length}
+use Rattle.std.specs.Prelude.{ℕ, List, ◌≤◌, ◌≡◌, length}
 use Rattle.store.specs.Store.{Rows, rows}
 use Rattle.store.specs.declared.records.Records.{Records}
 use Rattle.store.specs.declared.lent.Lent.{Lent}
@@ -9,6 +9,18 @@ use Rattle.store.specs.declared.lent.Sizes.{Sizes}
 -- the lent lists
 abbrev pub held : Records → Rows
 held r = rows r.tags.now r.units.now r.uses.now
+
+-- each list has n places or more
+pub record Places (r : Records) (n : ℕ) : Type 0 where
+  pub tags : n ≤ length r.tags.now
+  pub units : n ≤ length r.units.now
+  pub uses : n ≤ length r.uses.now
+
+-- room for so many records: so many places in each list; of tags there may be more
+pub record Room (r : Records) (room : ℕ) : Type 0 where
+  pub tags : room ≤ length r.tags.now
+  pub units : length r.units.now ≡ room
+  pub uses : length r.uses.now ≡ room
 
 -- the same slices, as long as they were
 pub record SameSlices (was is : Records) : Type 0 where
@@ -23,22 +35,21 @@ pub record SameSlices (was is : Records) : Type 0 where
 abbrev pub sizes : ℕ → ℕ → ℕ → ℕ → Sizes
 sizes tags units uses counted = record { tags = tags; units = units; uses = uses; counted = counted }
 
--- what f says of the sizes
-abbrev pub of_sizes : {A : Type 0} → (ℕ → ℕ → ℕ → ℕ → A) → Sizes → A
-of_sizes f s = f s.tags s.units s.uses s.counted
+-- of the unit records' lists and of the counted rows
+abbrev pub sizes_of : Rows → List (List ℕ) → Sizes
+sizes_of m counted = sizes (length m.tags) (length m.units) (length m.uses) (length counted)
 
 abbrev pub lent_rows : Lent → Rows
 lent_rows l = rows l.tags.now l.units.now l.uses.now
 
 abbrev pub lent_sizes : Lent → Sizes
-lent_sizes l = sizes (length l.tags.now) (length l.units.now) (length l.uses.now) (length l.counted.now)
+lent_sizes l = sizes_of (lent_rows l) l.counted.now
+
+abbrev pub read_rows : LentRead → Rows
+read_rows l = rows l.tags.now l.units.now l.uses.now
 
 abbrev pub read_sizes : LentRead → Sizes
-read_sizes l = sizes (length l.tags.now) (length l.units.now) (length l.uses.now) (length l.counted.now)
-
--- what f says of the sizes of the unit records and of the counted rows
-abbrev pub of_read : {A : Type 0} → (ℕ → ℕ → ℕ → List (List ℕ) → A) → LentRead → A
-of_read f l = f (length l.tags.now) (length l.units.now) (length l.uses.now) l.counted.now
+read_sizes l = sizes_of (read_rows l) l.counted.now
 
 -- the same slices, as long as they were
 pub record SameLent (was is : Lent) : Type 0 where

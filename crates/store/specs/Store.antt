@@ -4,8 +4,10 @@ use Rattle.ieee.specs.Doubles.{nothing}
 use Rattle.flow.specs.Flow.{at, upto, dims}
 use Rattle.flow.specs.declared.Use.{Use}
 use Rattle.sender.specs.declared.Name.{Name}
+use Rattle.sender.specs.declared.Unit.{Unit}
 use Rattle.sender.specs.declared.Words.{Words}
 use Rattle.sender.specs.Sender as sender
+unfoldable pub use Rattle.sender.specs.Sender.{same}
 
 -- causes of a cut
 abbrev pub «CAUSES» : ℕ
@@ -19,6 +21,10 @@ pub record Rows : Type 0 where
 
 abbrev pub rows : List ℕ → List (List ℕ) → List (List Float) → Rows
 rows tags units uses = record { tags = tags; units = units; uses = uses }
+
+-- the same with other tags
+abbrev pub with_tags : Rows → List ℕ → Rows
+with_tags m tags = rows tags m.units m.uses
 
 -- a record: what one place of each list holds. The words of its row are the kind, four words of the unit, the stamp, the fresh mark
 pub record Record : Type 0 where
@@ -57,22 +63,28 @@ words_at units i = record {
 abbrev pub name_at : List ℕ → List (List ℕ) → ℕ → Name
 name_at tags units i = record { tag = get_or tags i 0; words = words_at units i }
 
+-- the unit that it reads as
+unfoldable pub unit_at : List ℕ → List (List ℕ) → ℕ → Unit
+unit_at tags units i = sender.reads (name_at tags units i)
+
 unfoldable pub stamp_at : List (List ℕ) → ℕ → ℕ
 stamp_at units i = get_or (unit_row units i) 5 0
 
-unfoldable pub use_at : List (List ℕ) → List (List Float) → ℕ → Use
-use_at units uses i = record {
-  attempted = part (get_or uses i []) 0;
-  credit = part (get_or uses i []) dims;
-  at_ms = get_or (unit_row units i) 5 0;
-  fresh = get_or (unit_row units i) 6 0;
+unfoldable pub use_at : Rows → ℕ → Use
+use_at m i = record {
+  attempted = part (get_or m.uses i []) 0;
+  credit = part (get_or m.uses i []) dims;
+  at_ms = get_or (unit_row m.units i) 5 0;
+  fresh = get_or (unit_row m.units i) 6 0;
 }
 
-unfoldable pub units_put : List (List ℕ) → ℕ → Use → List (List ℕ)
-units_put units i u = set units i (set (set (unit_row units i) 5 u.at_ms) 6 u.fresh)
-
-unfoldable pub uses_put : List (List Float) → ℕ → Use → List (List Float)
-uses_put uses i u = set uses i (joined u.attempted u.credit)
+-- the use put into the record at i, whose unit stays
+unfoldable pub put : Rows → ℕ → Use → Rows
+put m i u = record {
+  tags = m.tags;
+  units = set m.units i (set (set (unit_row m.units i) 5 u.at_ms) 6 u.fresh);
+  uses = set m.uses i (joined u.attempted u.credit);
+}
 
 unfoldable pub added : Rows → ℕ → Name → Use → Rows
 added m i name u = record {
@@ -82,10 +94,6 @@ added m i name u = record {
 }
 
 -- ---- find
--- the same unit: raw words are compared
-unfoldable pub same : Words → Words → Bool
-same v w = eqb v.kind w.kind && eqb v.a w.a && eqb v.b w.b && eqb v.c w.c && eqb v.d w.d
-
 -- the record at i is the unit's: tag and words; one whose tag is not its unit's is not found
 unfoldable pub is_at : List ℕ → List (List ℕ) → Name → ℕ → Bool
 is_at tags units name i = eqb (get_or tags i 0) name.tag && same (words_at units i) name.words

@@ -12,7 +12,7 @@ mod records;
 use flow::DIMS;
 pub use lent::{Lent, LentRead, Sizes};
 pub use records::Records;
-use sender::Words;
+use sender::{Name, Unit, Words};
 
 // Causes of a cut. A source counts its cuts for each.
 pub const CAUSES: usize = 3;
@@ -59,4 +59,18 @@ pub fn words_at<const N: usize>(rows: &[[u64; N]], i: usize) -> Words
         c: row[3],
         d: row[4],
     }
+}
+
+// The unit that the record at i reads as.
+#[tactic(auto, unfolding(crate::specs::Store::unit_at))]
+pub fn unit_at<const N: usize>(tags: &[u16], rows: &[[u64; N]], i: usize) -> Unit
+    requires tag_in_bounds { i < length tags.now }
+    requires row_in_bounds { i < length rows.now }
+    requires words_in_row { 5 ≤ N }
+    ensures { result ≡ store.unit_at tags.now rows.now i }
+{
+    Unit::from(Name {
+        tag: tags[i],
+        words: words_at(rows, i),
+    })
 }

@@ -24,7 +24,7 @@ impl Records<'_> {
     pub fn use_at(&self, i: usize) -> Use
         requires i_in_bounds { i < length self.now.units.now }
         requires i_in_bounds_2 { i < length self.now.uses.now }
-        ensures { result ≡ store.use_at self.now.units.now self.now.uses.now i }
+        ensures { result ≡ store.use_at (held self.now) i }
     {
         Use {
             attempted: part(self.uses[i], 0),
@@ -52,13 +52,11 @@ impl Records<'_> {
     }
 
     // The use put into the record; its unit stays.
-    #[tactic(auto, unfolding(crate::specs::Store::units_put, crate::specs::Store::uses_put))]
+    #[tactic(auto, unfolding(crate::specs::Store::put))]
     pub fn put_use(&mut self, i: usize, used: Use)
         requires i_in_bounds { i < length self.old.units.now }
         requires i_in_bounds_2 { i < length self.old.uses.now }
-        ensures tags_after { self.new.tags.now ≡ self.old.tags.now }
-        ensures units_after { self.new.units.now ≡ store.units_put self.old.units.now i used }
-        ensures uses_after { self.new.uses.now ≡ store.uses_put self.old.uses.now i used }
+        ensures rows_after { held self.new ≡ store.put (held self.old) i used }
         ensures slices { SameSlices self.old self.new }
     {
         let row = &mut self.units[i];

@@ -1,6 +1,6 @@
 -- The record that a call uses: found, added, or overflow's; read and put back. Definitions only.
 -- Definitions are shut (`unfoldable`): a proof opens the one that it is about.
-use Rattle.std.specs.Prelude.{ℕ, ◌+◌, cond, List, ltb, length, Float, unwrap_or}
+use Rattle.std.specs.Prelude.{ℕ, ◌+◌, cond, ltb, length, unwrap_or}
 use Rattle.flow.specs.Flow as flow
 use Rattle.flow.specs.declared.Use.{Use}
 use Rattle.sender.specs.declared.Unit as unit
@@ -39,20 +39,19 @@ entry m tracked room u clock =
     (cond (ltb tracked room) (entered (place tracked (tracked + 1)) (store.added m tracked (sender.name_of u) (flow.added clock))) (entered (place room tracked) m)))
 
 -- the use at a place: a record's, or overflow's
-unfoldable pub used_at : List (List ℕ) → List (List Float) → Use → ℕ → Use
-used_at units uses overflow i = cond (ltb i (length units)) (store.use_at units uses i) overflow
+unfoldable pub used_at : Rows → Use → ℕ → Use
+used_at m overflow i = cond (ltb i (length m.units)) (store.use_at m i) overflow
 
 -- overflow's use, and the rows, once a use was put back
 pub record Back : Type 0 where
   pub overflow : Use
-  pub units : List (List ℕ)
-  pub uses : List (List Float)
+  pub rows : Rows
 
-abbrev pub back : Use → List (List ℕ) → List (List Float) → Back
-back o units uses = record { overflow = o; units = units; uses = uses }
+abbrev pub back : Use → Rows → Back
+back o m = record { overflow = o; rows = m }
 
-unfoldable pub put_back : List (List ℕ) → List (List Float) → Use → ℕ → Use → Back
-put_back units uses overflow i u = cond (ltb i (length units)) (back overflow (store.units_put units i u) (store.uses_put uses i u)) (back u units uses)
+unfoldable pub put_back : Rows → Use → ℕ → Use → Back
+put_back m overflow i u = cond (ltb i (length m.units)) (back overflow (store.put m i u)) (back u m)
 
 -- the head with other flow, overflow's use, and number of records
 abbrev pub headed : Shedder → Flow → Use → ℕ → Shedder

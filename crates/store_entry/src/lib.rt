@@ -2,7 +2,7 @@
 #![tactic(auto)]
 
 ghost use Rattle.std.specs.Prelude.{◌≡◌, ◌≤◌, ◌<◌, length, IfSome, unwrap_or};
-ghost use Rattle.store.specs.Held.{held, SameSlices};
+ghost use Rattle.store.specs.Held.{held, Room, SameSlices};
 ghost use Rattle.store_entry.specs.Entering as entering;
 
 use flow::Use;
@@ -19,8 +19,7 @@ pub struct Place {
 // The unit's record; a new one, stamped with the clock, where there is room; else overflow's.
 #[tactic(auto, using(store::proofs::Found::found_some, store::proofs::Found::found_none), unfolding(crate::specs::Entering::entry))]
 pub fn entry(records: &mut Records<'_>, tracked: usize, named: Named, clock: u64) -> Place
-    requires room_in_bounds { length records.old.units.now ≤ length records.old.tags.now }
-    requires uses_len { length records.old.uses.now ≡ length records.old.units.now }
+    requires records_room { Room records.old (length records.old.units.now) }
     requires tracked_bound { tracked ≤ length records.old.units.now }
     ensures uses_after { entering.entered (entering.placed (length records.old.units.now) result) (held records.new)
         ≡ entering.entry (held records.old) tracked (length records.old.units.now) named.unit clock }
@@ -52,7 +51,7 @@ pub fn entry(records: &mut Records<'_>, tracked: usize, named: Named, clock: u64
 #[tactic(auto, unfolding(crate::specs::Entering::used_at))]
 pub fn used_at(records: &Records<'_>, overflow: Use, at: Option<usize>) -> Use
     requires { length records.now.units.now ≡ length records.now.uses.now }
-    ensures { result ≡ entering.used_at records.now.units.now records.now.uses.now overflow
+    ensures { result ≡ entering.used_at (held records.now) overflow
         (unwrap_or at (length records.now.units.now)) }
 {
     match at {
@@ -65,10 +64,9 @@ pub fn used_at(records: &Records<'_>, overflow: Use, at: Option<usize>) -> Use
 #[tactic(auto, unfolding(crate::specs::Entering::put_back))]
 pub fn put_back(records: &mut Records<'_>, overflow: Use, at: Option<usize>, used: Use) -> Use
     requires { length records.old.units.now ≡ length records.old.uses.now }
-    ensures back { entering.back result records.new.units.now records.new.uses.now
-        ≡ entering.put_back records.old.units.now records.old.uses.now overflow
+    ensures back { entering.back result (held records.new)
+        ≡ entering.put_back (held records.old) overflow
         (unwrap_or at (length records.old.units.now)) used }
-    ensures tags_after { records.new.tags.now ≡ records.old.tags.now }
     ensures slices { SameSlices records.old records.new }
 {
     match at {

@@ -2,7 +2,7 @@
 #![tactic(auto)]
 
 ghost use Rattle.std.specs.Prelude.{◌≡◌, ◌<◌, ◌≤◌, ◌+◌, length};
-ghost use Rattle.store.specs.Held.{held, SameSlices};
+ghost use Rattle.store.specs.Held.{held, Places, SameSlices};
 ghost use Rattle.store.specs.Store as store;
 ghost use Rattle.store_retain.specs.Retain as retain;
 
@@ -27,9 +27,7 @@ pub fn is_stale(records: &Records<'_>, i: usize, table: usize, at_ms: u64) -> bo
 // The record at i is moved to j, and i freed.
 #[tactic(auto, unfolding(crate::specs::Retain::moved))]
 fn moved(records: &mut Records<'_>, i: usize, j: usize)
-    requires i_in_bounds { i < length records.old.tags.now }
-    requires i_in_bounds_2 { i < length records.old.units.now }
-    requires i_in_bounds_3 { i < length records.old.uses.now }
+    requires i_in_bounds { Places records.old (i + 1) }
     requires j_le_i { j ≤ i }
     ensures rows_after { held records.new ≡ retain.moved (held records.old) i j }
     ensures slices { SameSlices records.old records.new }
@@ -42,9 +40,7 @@ fn moved(records: &mut Records<'_>, i: usize, j: usize)
 // A place becomes zero bits.
 #[tactic(auto, unfolding(crate::specs::Retain::freed))]
 fn freed(records: &mut Records<'_>, place: usize)
-    requires place_in_bounds { place < length records.old.tags.now }
-    requires place_in_bounds_2 { place < length records.old.units.now }
-    requires place_in_bounds_3 { place < length records.old.uses.now }
+    requires place_in_bounds { Places records.old (place + 1) }
     ensures rows_after { held records.new ≡ retain.freed (held records.old) place }
     ensures slices { SameSlices records.old records.new }
 {
@@ -55,9 +51,7 @@ fn freed(records: &mut Records<'_>, place: usize)
 
 // The record at i: freed where it is stale, else moved to j, the end of those kept.
 fn retain_one(records: &mut Records<'_>, i: usize, j: usize, table: usize, at_ms: u64) -> usize
-    requires i_in_bounds { i < length records.old.tags.now }
-    requires i_in_bounds_2 { i < length records.old.units.now }
-    requires i_in_bounds_3 { i < length records.old.uses.now }
+    requires i_in_bounds { Places records.old (i + 1) }
     requires j_le_i { j ≤ i }
     ensures uses_after { retain.kept result (held records.new)
         ≡ retain.retain_one (retain.kept j (held records.old)) table at_ms i }
@@ -79,9 +73,7 @@ fn retain_one(records: &mut Records<'_>, i: usize, j: usize, table: usize, at_ms
 // is written there; from there on a record that stays is copied once.
 pub fn retain(records: &mut Records<'_>, from: usize, n: usize, table: usize, at_ms: u64) -> usize
     requires from_le_n { from ≤ n }
-    requires n_in_bounds { n ≤ length records.old.tags.now }
-    requires n_in_bounds_2 { n ≤ length records.old.units.now }
-    requires n_in_bounds_3 { n ≤ length records.old.uses.now }
+    requires n_in_bounds { Places records.old n }
     requires none { store.None (retain.is_stale records.old.tags.now records.old.units.now table at_ms) 0 from }
     ensures uses_after { retain.kept result (held records.new)
         ≡ retain.retained (held records.old) table at_ms n }

@@ -120,8 +120,9 @@ impl Shedder {
         held(self.tables.get(table_of(unit))?).units.get(&unit).map(Use::words)
     }
 
-    pub fn push_unit(&self, unit: Unit, words: &UseWords) {
-        held(&self.tables[table_of(unit)]).units.insert(unit, Use::of_words(words));
+    /// A record in this table, which need not be its unit's.
+    pub fn push_unit(&self, table: usize, unit: Unit, words: &UseWords) {
+        held(&self.tables[table]).units.insert(unit, Use::of_words(words));
         self.tracked.fetch_add(1, Ordering::Relaxed);
     }
 

@@ -6,7 +6,7 @@ use crate::shed::{self, bits, Cause, Cost, Rates, Unit, HEAD_WORDS};
 use crate::standin::{SOURCES_COUNTED, UNITS_TRACKED};
 use crate::steps::{Random, Step};
 use crate::tankpost::{Bucket, Head, Shedder, Words};
-use crate::units::{tag_of, unit_of, words_of};
+use crate::units::{reads, tag_of, words_of};
 use std::sync::atomic::Ordering;
 
 pub struct Both {
@@ -15,6 +15,8 @@ pub struct Both {
     /// the memory as the last start found it, and the most records in use since
     found: Shedder,
     most: [usize; 2],
+    /// the tags and words of the records written since the last start
+    written: Vec<(u16, Words)>,
     /// all is compared each so many steps, the head and the unit's record at each
     stride: Option<usize>,
     steps: usize,
@@ -85,7 +87,7 @@ impl Both {
             here.sums[1].fill_with(|| f64::from_bits(random.word()));
             here.counts[0].fill_with(|| random.word() as u32);
         }
-        Self { rust: None, found: here.clone(), here, most: [0; 2], stride, steps: 0 }
+        Self { rust: None, found: here.clone(), here, most: [0; 2], written: Vec::new(), stride, steps: 0 }
     }
 
     fn start(&mut self, rate: [u64; 2], ceiling: [u64; 2]) -> Result<(), String> {
@@ -96,6 +98,7 @@ impl Both {
             self.rust = Some(shed::Shedder::new(rates(rate), rates(ceiling)));
             self.found = self.here.clone();
             self.most = [0; 2];
+            self.written.clear();
         }
         Ok(())
     }
@@ -150,20 +153,21 @@ impl Both {
                 h.sums[dim][bucket] = f64::from_bits(sum);
                 rust.set_want(dim, bucket, count, sum);
             }
-            Step::Record(words, used, fresh) if rust.is_bounded() && h.head.tracked < h.head.unit_room => {
+            Step::Record(tag, words, used, fresh) if rust.is_bounded() && h.head.tracked < h.head.unit_room => {
                 let i = h.head.tracked;
-                let unit = unit_of(words);
-                h.tags[i] = tag_of(unit);
+                h.tags[i] = tag;
                 h.units[i] = [words.kind, words.a, words.b, words.c, words.d, used[4], if used[5] != 0 { fresh } else { 0 }];
                 h.uses[i] = [0, 1, 2, 3].map(|k| f64::from_bits(used[k]));
                 h.head.tracked += 1;
-                rust.push_unit(unit, &used);
+                rust.push_unit(usize::from(tag >> 10), reads(tag, words), &used);
+                self.written.push((tag, words));
             }
-            Step::Counted(words, counts) if h.head.counted + 1 < h.head.counted_room => {
-                h.tags[h.units.len() + h.head.counted] = tag_of(unit_of(words));
+            Step::Counted(tag, words, counts) if h.head.counted + 1 < h.head.counted_room => {
+                h.tags[h.units.len() + h.head.counted] = tag;
                 h.counted[h.head.counted] = [words.kind, words.a, words.b, words.c, words.d, counts[0], counts[1], counts[2]];
                 h.head.counted += 1;
-                rust.push_counted(unit_of(words), counts);
+                rust.push_counted(reads(tag, words), counts);
+                self.written.push((tag, words));
             }
             _ => {}
         }
@@ -228,14 +232,15 @@ impl Both {
 
     fn record(&self, i: usize) -> (Unit, shed::UseWords) {
         let (row, used) = (&self.here.units[i], self.here.uses[i].map(bits));
-        (unit_of(row_words(row)), [used[0], used[1], used[2], used[3], row[5], u64::from(row[6] != 0)])
+        (reads(self.here.tags[i], row_words(row)), [used[0], used[1], used[2], used[3], row[5], u64::from(row[6] != 0)])
     }
 
     /// The unit's record, where it has one of its own. Overflow's stands in the head.
     fn same_unit(&self, unit: Unit) -> Result<(), String> {
         let Some(rust) = self.rust.as_ref().filter(|_| unit != Unit::Overflow) else { return Ok(()) };
-        let (tag, words) = (tag_of(unit), words_of(unit));
         let h = &self.here;
+        // the same as that it reads as the unit, without a hash for each record
+        let (tag, words) = (tag_of(unit), words_of(unit));
         let own = |i: &usize| h.tags[*i] == tag && row_words(&h.units[*i]) == words;
         let here = (0..h.head.tracked).find(own).map(|i| self.record(i).1);
         differs("record", rust.use_words(unit), here)
@@ -252,11 +257,16 @@ impl Both {
         for (i, table) in tables.into_iter().enumerate() {
             differs(&format!("table {i}"), rust.table_words(i), table)?;
         }
-        let row = |r: &[u64; 8]| (unit_of(row_words(r)), [r[5], r[6], r[7]]);
-        let sources = rust.counted_words();
-        let tags: Vec<u16> = sources.iter().map(|(unit, _)| tag_of(*unit)).collect();
-        differs("counted", sources, h.counted[..h.head.counted].iter().map(row).collect())?;
-        differs("tags of the counted", &tags[..], &h.tags[h.units.len()..][..h.head.counted])?;
+        let row = |(tag, r): (&u16, &[u64; 8])| (reads(*tag, row_words(r)), [r[5], r[6], r[7]]);
+        let counted = || h.tags[h.units.len()..].iter().zip(&h.counted[..h.head.counted]);
+        differs("counted", rust.counted_words(), counted().map(row).collect())?;
+        // what reads as overflow is overflow's own, or was written so: the Rust does not have its tag and words
+        let units = h.tags.iter().zip(&h.units[..h.head.tracked]).map(|(tag, r)| (*tag, row_words(r)));
+        for name in units.chain(counted().map(|(tag, r)| (*tag, row_words(r)))) {
+            let own = (tag_of(Unit::Overflow), words_of(Unit::Overflow));
+            let known = reads(name.0, name.1) != Unit::Overflow || name == own || self.written.contains(&name);
+            differs("what reads as overflow", true, known)?;
+        }
         for dim in 0..2 {
             let (counts, sums) = rust.wants_words(dim);
             differs("histogram's counts", &counts[..], &h.counts[dim][..])?;

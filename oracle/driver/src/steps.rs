@@ -2,7 +2,7 @@
 use crate::lines::{self, Line};
 use crate::shed::{Cause, Unit, UseWords};
 use crate::tankpost::Words;
-use crate::units::words_of;
+use crate::units::{tag_of, unit_of, words_of};
 
 #[derive(Clone, Copy, Debug)]
 pub enum Step {
@@ -17,10 +17,10 @@ pub enum Step {
     Tables(u64, u64),
     /// a bucket of a dimension's histogram: count and sum
     Want(usize, usize, u32, u64),
-    /// a record more, with this word for fresh
-    Record(Words, UseWords, u64),
+    /// a record more of this tag and these words, with this word for fresh
+    Record(u16, Words, UseWords, u64),
     /// a counted source more
-    Counted(Words, [u64; 3]),
+    Counted(u16, Words, [u64; 3]),
 }
 
 /// splitmix64
@@ -80,7 +80,23 @@ fn a_use(random: &mut Random) -> UseWords {
     [a, b, c, d, at, random.word() & 1]
 }
 
-/// The words of a unit of the list, or of any unit; now and then a kind that there is not, or a prefix too large.
+/// The tag and the words of a unit of the list, or of any unit; now and then a kind that there is not, a prefix too large, other
+/// bits in words that the unit does not use, or another tag.
+fn some_name(random: &mut Random, known: &[Unit]) -> (u16, Words) {
+    let mut words = some_words(random, known);
+    let own = tag_of(unit_of(words));
+    if words.kind > 0 && random.below(8) == 0 {
+        words.d = random.word();
+    }
+    let tag = match random.below(12) {
+        0 => random.word() as u16,
+        // of the same table
+        1 => own ^ 1,
+        _ => own,
+    };
+    (tag, words)
+}
+
 fn some_words(random: &mut Random, known: &[Unit]) -> Words {
     let odd = |kind, a| Words { kind, a, ..Words::default() };
     match random.below(8) {
@@ -95,7 +111,10 @@ fn some_words(random: &mut Random, known: &[Unit]) -> Words {
 /// A write of some part of the state.
 pub fn a_write(random: &mut Random, known: &[Unit]) -> Step {
     match random.below(8) {
-        0 | 1 => Step::Record(some_words(random, known), a_use(random), random.word() | 1),
+        0 | 1 => {
+            let (tag, words) = some_name(random, known);
+            Step::Record(tag, words, a_use(random), random.word() | 1)
+        }
         2 => Step::Want(random.below(2), random.below(768), random.sized() as u32, random.float()),
         3 => {
             let remaining = random.below(65) as u64;
@@ -103,11 +122,8 @@ pub fn a_write(random: &mut Random, known: &[Unit]) -> Step {
         }
         4 => {
             let n = random.one(&[u64::MAX, u64::MAX - 1, 0, 1, 2]);
-            let mut words = some_words(random, known);
-            if words.kind > 0 && random.below(4) == 0 {
-                words.d = random.word();
-            }
-            Step::Counted(words, [n, random.sized(), random.sized()])
+            let (tag, words) = some_name(random, known);
+            Step::Counted(tag, words, [n, random.sized(), random.sized()])
         }
         5 => Step::Head(random.one(&[10, 21, 22, 27]), random.stamp()),
         6 => Step::Head(random.one(&[17, 18, 30, 33, 34, 35, 36, 37, 38]), random.word()),

@@ -38,6 +38,12 @@ pub fn unit_of(w: Words) -> Unit {
     }
 }
 
+/// What a record reads as: the unit whose record has exactly this tag and these words, else overflow.
+pub fn reads(tag: u16, w: Words) -> Unit {
+    let unit = unit_of(w);
+    if tag_of(unit) == tag && words_of(unit) == w { unit } else { Unit::Overflow }
+}
+
 /// What a record keeps of the unit's hash: the table, and the ten lowest bits.
 pub fn tag_of(unit: Unit) -> u16 {
     let hash = hash_of(unit);

@@ -5,6 +5,6 @@ use Rattle.cut.proofs.handed_back.Goals as goal
 
 pub returns-clause-uses_after : goal.returns-clause-uses_after
 returns-clause-uses_after c =
-    let room = c.requires.units_len in
+    let room = c.requires.records_room.units in
     let kept = c.entry-p.ensures.slices.units_length ∙ room in
-    rw c.put_back-overflow.ensures.tags_after (handed_is c.args.head _ c.args.named.unit c.args.cost (placed c.args.head.unit_room c.entry-p.result) _ _ _ _ _ c.used_at-used.result c.handed_back-next.result c.put_back-overflow.result c.flowed_back-flow.result (rw room at c.entry-p.ensures.uses_after) (rw kept at c.used_at-used.ensures) c.handed_back-next.ensures (rw kept at c.put_back-overflow.ensures.back) c.flowed_back-flow.ensures)
+    handed_is c.args.head _ c.args.named.unit c.args.cost (placed c.args.head.unit_room c.entry-p.result) _ _ c.used_at-used.result c.handed_back-next.result c.put_back-overflow.result c.flowed_back-flow.result (rw room at c.entry-p.ensures.uses_after) (rw kept at c.used_at-used.ensures) c.handed_back-next.ensures (rw kept at c.put_back-overflow.ensures.back) c.flowed_back-flow.ensures

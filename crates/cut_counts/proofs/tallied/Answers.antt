@@ -7,7 +7,7 @@ use Rattle.cut_counts.proofs.tallied.Goals as goal
 
 pub returns-clause-counted_after : goal.returns-clause-counted_after
 returns-clause-counted_after c =
-    tallied_is c.args.h c.added.result c.args.lent.now.tags.now _ c.args.lent.now.counted.now _ c.sourced-n.result c.args.name (index_of c.args.cause) c.args.receptions c.sourced-n.ensures.counted_after c.added.ensures
+    tallied_is c.args.h c.added.result c.args.lent.now.tags.now _ c.args.lent.now.counted.now _ c.sourced-n.result c.args.named.name (index_of c.args.cause) c.args.receptions c.sourced-n.ensures.counted_after c.added.ensures
 
 pub returns-clause-tracked_value : goal.returns-clause-tracked_value
 unfolding added

@@ -2,7 +2,6 @@ use Rattle.std.proofs.Common.{ap, ◌∙◌, Err, Ok}
 use Rattle.head.specs.declared.Refusal.{Refusal}
 use Rattle.wants.specs.Held.{wants_held}
 use Rattle.head.specs.declared.Shedder.{Shedder}
-use Rattle.store.specs.Held.{of_sizes}
 use Rattle.head.specs.Questions.{start_asked}
 use Rattle.head.specs.Start.{start, start_ends}
 use Rattle.head.proofs.Numbers.{refused_is, answered_is, answered_none}
@@ -11,11 +10,11 @@ use Rattle.head.proofs.start.Goals as goal
 pub returns-in-Err-clause-same_but_nan_bits : goal.returns-in-Err-clause-same_but_nan_bits
 unfolding start
 returns-in-Err-clause-same_but_nan_bits c =
-    refused_is (λ (r : Refusal). start_ends (Err r) c.args.head (wants_held c.args.histogram.now)) _ c.start_asked.result c.in-Err.refusal _ c.in-Err.is (c.start_asked.ensures ∙ ap (of_sizes (start_asked c.args.rate)) c.sizes.ensures)
+    refused_is (λ (r : Refusal). start_ends (Err r) c.args.head (wants_held c.args.histogram.now)) _ c.start_asked.result c.in-Err.refusal _ c.in-Err.is (c.start_asked.ensures ∙ ap (start_asked c.args.rate) c.sizes.ensures)
 
 pub returns-clause-same_but_nan_bits : goal.returns-clause-same_but_nan_bits
 unfolding start
 returns-clause-same_but_nan_bits c =
     ap (start_ends (Ok tt) c.opening.result) c.clear.ensures.wants_after
     ∙ ap (λ (h : Shedder). start_ends (Ok tt) h _) c.opening.ensures
-    ∙ answered_is _ _ _ (answered_none c.start_asked.result _ _ c.in_default.is (c.start_asked.ensures ∙ ap (of_sizes (start_asked c.args.rate)) c.sizes.ensures))
+    ∙ answered_is _ _ _ (answered_none c.start_asked.result _ _ c.in_default.is (c.start_asked.ensures ∙ ap (start_asked c.args.rate) c.sizes.ensures))

@@ -13,7 +13,7 @@ returns-clause-memory_after c =
     let t1 : c.lent-6-1.given.0 ≡ c.scanned-s.new.records.tags.now = search rules in
     let u1 : c.lent-5-1.given.0 ≡ c.scanned-s.new.records.units.now = search rules in
     let v1 : c.lent-4-1.given.0 ≡ c.scanned-s.new.records.uses.now = search rules in
-    rw (t1, u1, v1) (bounded_is c.args.head _ _ _ c.args.named.unit c.args.cost c.args.stamp c.later-clock.result c.numbers.result c.judged-p.result _ _ _ c.args.named.name c.count_verdict-t.result _ _ c.scanned-s.result _ _ c.later-clock.ensures c.numbers.ensures c.judged-p.ensures.uses_after c.args.named.name_is (rw t at c.count_verdict-t.ensures.counted_after) (rw (u, v) at c.scanned-s.ensures.sums_after))
+    rw (t1, u1, v1) (bounded_is c.args.head _ _ _ c.args.named.unit c.args.cost c.args.stamp c.later-clock.result c.numbers.result c.judged-p.result _ c.args.named.name c.count_verdict-t.result _ _ c.scanned-s.result _ _ c.later-clock.ensures c.numbers.ensures c.judged-p.ensures.uses_after c.args.named.name_is (rw t at c.count_verdict-t.ensures.counted_after) (rw (u, v) at c.scanned-s.ensures.sums_after))
 
 pub returns-clause-answer_value : goal.returns-clause-answer_value
 unfolding answer_number

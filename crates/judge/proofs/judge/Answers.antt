@@ -8,7 +8,7 @@ use Rattle.head.specs.Answers.{answer_number}
 use Rattle.head.specs.Questions.{judge_asked}
 use Rattle.sender.specs.declared.Unit.{Unit}
 use Rattle.store.specs.declared.lent.Sizes.{Sizes}
-use Rattle.store.specs.Held.{of_sizes, lent_rows}
+use Rattle.store.specs.Held.{lent_rows}
 use Rattle.verdict.specs.declared.Rule.{Rule}
 use Rattle.judge.specs.Judging.{judge, judge_ends, ruling, bounded, bounded_ruling}
 use Rattle.judge.specs.Lending.{lent_memory}
@@ -17,11 +17,11 @@ use Rattle.judge.proofs.judge.Goals as goal
 
 -- the number of what the questions answer, by the sizes of the lent rows
 asked_by : (h : Shedder) (cost : List ℕ) (stamp : ℕ) (a : Result ⊤ Refusal) (s t : Sizes) → s ≡ t
-    → answer_number a ≡ of_sizes (judge_asked h) s cost stamp → answer_number a ≡ of_sizes (judge_asked h) t cost stamp
-asked_by h cost stamp a s t e q = q ∙ ap (λ (s : Sizes). of_sizes (judge_asked h) s cost stamp) e
+    → answer_number a ≡ judge_asked h s cost stamp → answer_number a ≡ judge_asked h t cost stamp
+asked_by h cost stamp a s t e q = q ∙ ap (λ (s : Sizes). judge_asked h s cost stamp) e
 
 none_asked : (h : Shedder) (cost : List ℕ) (stamp : ℕ) (a : Result ⊤ Refusal) (s t : Sizes) → s ≡ t → (x : ⊤) → a ≡ Ok x
-    → answer_number a ≡ of_sizes (judge_asked h) s cost stamp → of_sizes (judge_asked h) t cost stamp ≡ 0
+    → answer_number a ≡ judge_asked h s cost stamp → judge_asked h t cost stamp ≡ 0
 none_asked h cost stamp a s t e x is q = answered_none a x _ is (asked_by h cost stamp a s t e q)
 
 pub returns-in-Err-clause-same_but_nan_bits : goal.returns-in-Err-clause-same_but_nan_bits
@@ -57,7 +57,7 @@ returns-then-is_unbounded-clause-same_but_nan_bits_2 c =
     simp ((none_asked c.args.head c.args.cost c.args.stamp _ _ _ c.sizes.ensures _ c.in_default.is c.judge_asked.ensures), sym c.is_unbounded.ensures, c.if-is_unbounded.true)
 
 pub bounded-requires : goal.bounded-requires
-bounded-requires c = asked_ready c.args.head _ _ _ _ c.args.cost c.args.stamp (none_asked c.args.head c.args.cost c.args.stamp _ _ _ c.sizes.ensures _ c.in_default.is c.judge_asked.ensures)
+bounded-requires c = asked_ready c.args.head _ c.args.cost c.args.stamp (none_asked c.args.head c.args.cost c.args.stamp _ _ _ c.sizes.ensures _ c.in_default.is c.judge_asked.ensures)
 
 pub returns-clause-same_but_nan_bits : goal.returns-clause-same_but_nan_bits
 unfolding judge

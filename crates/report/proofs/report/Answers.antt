@@ -7,11 +7,11 @@ pub slice_bounds-result-end : goal.slice_bounds-result-end
 slice_bounds-result-end c =
     omega (
       arith,
-      part_length c.args.head _ _ _ c.args.lent.now.counted.now c.args.out.now c.write_report-w.result _
+      part_length c.args.head _ c.args.lent.now.counted.now c.args.out.now c.write_report-w.result _
           c.bytes-n.result c.write_report-w.ensures.out_after c.bytes-n.ensures,
     )
 
 pub returns : goal.returns
 returns c =
-    part c.args.head _ _ _ c.args.lent.now.counted.now c.args.out.now c.write_report-w.result _
+    part c.args.head _ c.args.lent.now.counted.now c.args.out.now c.write_report-w.result _
     c.bytes-n.result c.write_report-w.ensures.out_after c.bytes-n.ensures

@@ -11,7 +11,7 @@ slice_bounds-put-end c =
 
 pub returns : goal.returns
 returns c = record {
-  out_after = written c.args.head _ _ _ c.args.lent.now.counted.now c.args.out.now _ c.composed-w.new.own _ _ c.put.new.self.at c.composed-w.ensures.value c.bytes-n.ensures c.composed-w.ensures.own_after
+  out_after = written c.args.head _ c.args.lent.now.counted.now c.args.out.now _ c.composed-w.new.own _ _ c.put.new.self.at c.composed-w.ensures.value c.bytes-n.ensures c.composed-w.ensures.own_after
       (search rules);
-  result_value = ap written_number c.composed-w.ensures.value ∙ answer_number _ _ _ _ _ _;
+  result_value = ap written_number c.composed-w.ensures.value ∙ answer_number _ _ _ _;
 }

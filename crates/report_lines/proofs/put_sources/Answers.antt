@@ -9,5 +9,5 @@ use Rattle.report_lines.proofs.put_sources.Goals as goal
 
 pub returns-in_default-clause-value : goal.returns-in_default-clause-value
 returns-in_default-clause-value c =
-    sources_none c.args.counted.now c.args.n (SOURCES_REPORTED - c.loop.counter) (SOURCES_REPORTED - 1 - c.loop.counter) (unwrap_or c.loop.last c.args.n)
+    sources_none c.args.sources.now.tags.now c.args.sources.now.counted.now c.args.n (SOURCES_REPORTED - c.loop.counter) (SOURCES_REPORTED - 1 - c.loop.counter) (unwrap_or c.loop.last c.args.n)
     (omega arith) _ (sym c.in_default.is ∙ c.first_after.ensures.value) ∙ sym c.loop.invariant.2

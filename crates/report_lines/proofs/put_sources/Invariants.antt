@@ -12,4 +12,4 @@ abbrev pub invariant-loop : goal.invariant-loop
 invariant-loop l =
     IfSome l.last (λ q. q < l.n)
     × (l.out.out.ghost_name ≡ l.initial.out.out.ghost_name)
-    × (writes (seen l.initial.out) (source_lines l.counted (reported l.counted l.n)) ≡ writes (seen l.out) (source_lines l.counted (named l.counted l.n (SOURCES_REPORTED - l.counter) (unwrap_or l.last l.n))))
+    × (writes (seen l.initial.out) (source_lines l.sources.tags.now l.sources.counted.now (reported l.sources.tags.now l.sources.counted.now l.n)) ≡ writes (seen l.out) (source_lines l.sources.tags.now l.sources.counted.now (named l.sources.tags.now l.sources.counted.now l.n (SOURCES_REPORTED - l.counter) (unwrap_or l.last l.n))))

@@ -12,27 +12,27 @@ use Rattle.store.specs.Found.{found}
 use Rattle.report_ranking.proofs.Choosing.{found_again}
 use Rattle.report_ranking.proofs.first_after.Goals as goal
 
-first-none : (rows : List (List ℕ)) (n p : ℕ) → first_after rows n p 0 ≡ n
+first-none : (tags : List ℕ) (rows : List (List ℕ)) (n p : ℕ) → first_after tags rows n p 0 ≡ n
 unfolding first_after
-first-none rows n p = refl
+first-none tags rows n p = refl
 
-first_next : (rows : List (List ℕ)) (n p m : ℕ) → first_after rows n p (m + 1) ≡ better rows n p (first_after rows n p m) m
+first_next : (tags : List ℕ) (rows : List (List ℕ)) (n p m : ℕ) → first_after tags rows n p (m + 1) ≡ better tags rows n p (first_after tags rows n p m) m
 unfolding first_after
-first_next rows n p m = rw add-one
+first_next tags rows n p m = rw add-one
 
 pub loop-i-init : goal.loop-i-init
-loop-i-init c = (search rules, sym (first-none _ _ _))
+loop-i-init c = (search rules, sym (first-none _ _ _ _))
 
 pub loop-i-preserved : goal.loop-i-preserved
 loop-i-preserved c = (
   c.better-best.ensures.upper_bound,
   c.better-best.ensures.value
-      ∙ ap (λ (b : ℕ). better c.args.counted.now c.args.n (unwrap_or c.args.p c.args.n) b c.loop-i.i)
-      c.loop-i.invariant.1 ∙ sym (first_next _ _ _ _),
+      ∙ ap (λ (b : ℕ). better c.args.sources.now.tags.now c.args.sources.now.counted.now c.args.n (unwrap_or c.args.p c.args.n) b c.loop-i.i)
+      c.loop-i.invariant.1 ∙ sym (first_next _ _ _ _ _),
 )
 
 pub returns-clause-value : goal.returns-clause-value
 returns-clause-value c =
     let e : c.loop-i.i ≡ c.args.n = omega arith in
     found_again c.args.n c.loop-i.best c.loop-i.invariant.0
-    ∙ ap (found c.args.n) (c.loop-i.invariant.1 ∙ ap (first_after c.args.counted.now c.args.n (unwrap_or c.args.p c.args.n)) e)
+    ∙ ap (found c.args.n) (c.loop-i.invariant.1 ∙ ap (first_after c.args.sources.now.tags.now c.args.sources.now.counted.now c.args.n (unwrap_or c.args.p c.args.n)) e)

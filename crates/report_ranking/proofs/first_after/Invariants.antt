@@ -6,4 +6,4 @@ use mathlib.Core.Path.{◌≡◌}
 use Rattle.report_ranking.proofs.first_after.Given as goal
 
 abbrev pub invariant-loop-i : goal.invariant-loop-i
-invariant-loop-i l = IfSome l.best (λ i. i < l.n) × (unwrap_or l.best l.n ≡ first_after l.counted l.n (unwrap_or l.p l.n) l.i)
+invariant-loop-i l = IfSome l.best (λ i. i < l.n) × (unwrap_or l.best l.n ≡ first_after l.sources.tags.now l.sources.counted.now l.n (unwrap_or l.p l.n) l.i)

@@ -12,7 +12,7 @@ slice_bounds-report-end c =
 pub returns-then-room-le-PAGE : goal.returns-then-room-le-PAGE
 returns-then-room-le-PAGE c = record {
   value = (λ g. c.answer_number.ensures ∙ c.report_refusal-refusal.ensures);
-  out_after = (λ g. part_put _ _ _ _ _ _ _ _ _ c.put.new.self.at (sym (front_length _ _ c.if-room-le-PAGE.true)) c.report-part.ensures (search rules));
+  out_after = (λ g. part_put _ _ _ _ _ _ _ c.put.new.self.at (sym (front_length _ _ c.if-room-le-PAGE.true)) c.report-part.ensures (search rules));
 }
 
 pub returns : goal.returns
