@@ -9,6 +9,9 @@ enum { UNITS = 256, COUNTED = 65 };
 
 static struct tankpost_head head;
 static uint16_t tags[UNITS + COUNTED];
+static uint32_t slots[UNITS];
+static tankpost_offsets offsets;
+static uint32_t free_slots[UNITS];
 static tankpost_unit_row units[UNITS];
 static tankpost_use_row uses[UNITS];
 static tankpost_counts counts;
@@ -42,23 +45,26 @@ static void judged(struct tankpost_judged j) {
 
 static void start(uint64_t ceiling_of_receptions) {
     const uint64_t rate[] = {10, 1000}, ceiling[] = {ceiling_of_receptions, 0};
-    answered(tankpost_start(head, tags, UNITS + COUNTED, (const tankpost_unit_row *)units, UNITS, (const tankpost_use_row *)uses, UNITS,
-                            &counts, &sums, (const tankpost_counted_row *)counted, COUNTED, rate, ceiling));
+    answered(tankpost_start(head, tags, UNITS + COUNTED, slots, UNITS, &offsets, free_slots, UNITS, units, UNITS, uses, UNITS,
+                            &counts, &sums, counted, COUNTED, rate, ceiling));
 }
 
 static void judge(struct tankpost_unit unit, uint64_t receptions, uint64_t bytes, uint64_t stamp) {
     const uint64_t cost[] = {receptions, bytes};
-    judged(tankpost_judge(head, tags, UNITS + COUNTED, units, UNITS, uses, UNITS, &counts, &sums, counted, COUNTED, unit, cost, stamp));
+    judged(tankpost_judge(head, tags, UNITS + COUNTED, slots, UNITS, &offsets, free_slots, UNITS, units, UNITS, uses, UNITS,
+                          &counts, &sums, counted, COUNTED, unit, cost, stamp));
 }
 
 static void cut(struct tankpost_unit unit, uint64_t cause, uint64_t receptions, uint64_t bytes) {
     const uint64_t cost[] = {receptions, bytes};
-    answered(tankpost_cut(head, tags, UNITS + COUNTED, units, UNITS, uses, UNITS, counted, COUNTED, unit, cause, cost));
+    answered(tankpost_cut(head, tags, UNITS + COUNTED, slots, UNITS, &offsets, free_slots, UNITS, units, UNITS, uses, UNITS, counted,
+                          COUNTED, unit, cause, cost));
 }
 
 static uint64_t report(void) {
     uint8_t out[4096];
-    struct tankpost_count written = tankpost_report(head, tags, UNITS + COUNTED, (const tankpost_unit_row *)units, UNITS,
+    struct tankpost_count written = tankpost_report(head, tags, UNITS + COUNTED, slots, UNITS, (const tankpost_offsets *)&offsets,
+                                                    free_slots, UNITS, (const tankpost_unit_row *)units, UNITS,
                                                     (const tankpost_use_row *)uses, UNITS, (const tankpost_counted_row *)counted,
                                                     COUNTED, out, sizeof out);
     fwrite(out, 1, written.value, stdout);

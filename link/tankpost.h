@@ -13,6 +13,7 @@ extern "C" {
 #define TANKPOST_DIMS 2
 #define TANKPOST_CAUSES 3
 #define TANKPOST_BUCKETS 768
+#define TANKPOST_OFFSETS 65
 
 /* The verdict of a judgement; none where it was refused. */
 #define TANKPOST_VERDICT_NONE 0
@@ -104,7 +105,9 @@ struct tankpost_level {
     double value;
 };
 
-/* The records: a pointer and a count for each slice. There are as many tags as unit records and counted records together. */
+/* The records: a pointer and a count for each slice. There are as many tags as unit records and counted records together; as
+   many slots and free slots as unit records. A start writes offsets, free slots and histogram, and no other memory. */
+typedef uint32_t tankpost_offsets[TANKPOST_OFFSETS];
 typedef uint64_t tankpost_unit_row[7];
 typedef double tankpost_use_row[2 * TANKPOST_DIMS];
 typedef uint64_t tankpost_counted_row[8];
@@ -113,16 +116,22 @@ typedef double tankpost_sums[TANKPOST_DIMS][TANKPOST_BUCKETS];
 
 struct tankpost_answered tankpost_start(
     struct tankpost_head head,
-    const uint16_t *tags, size_t tags_len,
-    const tankpost_unit_row *units, size_t units_len,
-    const tankpost_use_row *uses, size_t uses_len,
+    uint16_t *tags, size_t tags_len,
+    uint32_t *slots, size_t slots_len,
+    tankpost_offsets *offsets,
+    uint32_t *free_slots, size_t free_slots_len,
+    tankpost_unit_row *units, size_t units_len,
+    tankpost_use_row *uses, size_t uses_len,
     tankpost_counts *counts, tankpost_sums *sums,
-    const tankpost_counted_row *counted, size_t counted_len,
+    tankpost_counted_row *counted, size_t counted_len,
     const uint64_t rate[TANKPOST_DIMS], const uint64_t ceiling[TANKPOST_DIMS]);
 
 struct tankpost_judged tankpost_judge(
     struct tankpost_head head,
     uint16_t *tags, size_t tags_len,
+    uint32_t *slots, size_t slots_len,
+    tankpost_offsets *offsets,
+    uint32_t *free_slots, size_t free_slots_len,
     tankpost_unit_row *units, size_t units_len,
     tankpost_use_row *uses, size_t uses_len,
     tankpost_counts *counts, tankpost_sums *sums,
@@ -133,6 +142,9 @@ struct tankpost_judged tankpost_judge(
 struct tankpost_answered tankpost_cut(
     struct tankpost_head head,
     uint16_t *tags, size_t tags_len,
+    uint32_t *slots, size_t slots_len,
+    tankpost_offsets *offsets,
+    uint32_t *free_slots, size_t free_slots_len,
     tankpost_unit_row *units, size_t units_len,
     tankpost_use_row *uses, size_t uses_len,
     tankpost_counted_row *counted, size_t counted_len,
@@ -142,6 +154,9 @@ struct tankpost_answered tankpost_cut(
 struct tankpost_count tankpost_report(
     struct tankpost_head head,
     const uint16_t *tags, size_t tags_len,
+    const uint32_t *slots, size_t slots_len,
+    const tankpost_offsets *offsets,
+    const uint32_t *free_slots, size_t free_slots_len,
     const tankpost_unit_row *units, size_t units_len,
     const tankpost_use_row *uses, size_t uses_len,
     const tankpost_counted_row *counted, size_t counted_len,
@@ -150,17 +165,21 @@ struct tankpost_count tankpost_report(
 uint64_t tankpost_report_refusal(
     struct tankpost_head head,
     const uint16_t *tags, size_t tags_len,
+    const uint32_t *slots, size_t slots_len,
+    const tankpost_offsets *offsets,
+    const uint32_t *free_slots, size_t free_slots_len,
     const tankpost_unit_row *units, size_t units_len,
     const tankpost_use_row *uses, size_t uses_len,
     const tankpost_counted_row *counted, size_t counted_len,
     const uint8_t *out, size_t out_len);
 
-struct tankpost_count tankpost_visited(struct tankpost_head head);
-struct tankpost_count tankpost_cut_batches(struct tankpost_head head, uint64_t cause);
+/* The readings: question 3 asks the offsets beside the head. */
+struct tankpost_count tankpost_visited(struct tankpost_head head, const tankpost_offsets *offsets);
+struct tankpost_count tankpost_cut_batches(struct tankpost_head head, const tankpost_offsets *offsets, uint64_t cause);
 /* dim: 0 receptions, any other bytes; an unbounded relay's rate reads UINT64_MAX; a bounded relay reads 1 */
-struct tankpost_level tankpost_level(struct tankpost_head head, uint64_t dim);
-struct tankpost_count tankpost_rate(struct tankpost_head head, uint64_t dim);
-struct tankpost_count tankpost_is_bounded(struct tankpost_head head);
+struct tankpost_level tankpost_level(struct tankpost_head head, const tankpost_offsets *offsets, uint64_t dim);
+struct tankpost_count tankpost_rate(struct tankpost_head head, const tankpost_offsets *offsets, uint64_t dim);
+struct tankpost_count tankpost_is_bounded(struct tankpost_head head, const tankpost_offsets *offsets);
 
 #ifdef __cplusplus
 }

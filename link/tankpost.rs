@@ -6,6 +6,7 @@
 pub const DIMS: usize = 2;
 pub const CAUSES: usize = 3;
 pub const BUCKETS: usize = 768;
+pub const OFFSETS: usize = 65;
 
 // The codes of a `Decision`.
 pub const VERDICT_NONE: u64 = 0;
@@ -188,6 +189,7 @@ pub struct Level {
     pub value: f64,
 }
 
+pub type Offsets = [u32; OFFSETS];
 pub type UnitRow = [u64; 7];
 pub type UseRow = [f64; 2 * DIMS];
 pub type CountedRow = [u64; 8];
@@ -197,18 +199,24 @@ pub type Sums = [[f64; BUCKETS]; DIMS];
 unsafe extern "C" {
     fn tankpost_start(
         head: Head,
-        tags: *const u16, tags_len: usize,
-        units: *const UnitRow, units_len: usize,
-        uses: *const UseRow, uses_len: usize,
+        tags: *mut u16, tags_len: usize,
+        slots: *mut u32, slots_len: usize,
+        offsets: *mut Offsets,
+        free: *mut u32, free_len: usize,
+        units: *mut UnitRow, units_len: usize,
+        uses: *mut UseRow, uses_len: usize,
         counts: *mut Counts,
         sums: *mut Sums,
-        counted: *const CountedRow, counted_len: usize,
+        counted: *mut CountedRow, counted_len: usize,
         rate: *const [u64; DIMS],
         ceiling: *const [u64; DIMS],
     ) -> Answered;
     fn tankpost_judge(
         head: Head,
         tags: *mut u16, tags_len: usize,
+        slots: *mut u32, slots_len: usize,
+        offsets: *mut Offsets,
+        free: *mut u32, free_len: usize,
         units: *mut UnitRow, units_len: usize,
         uses: *mut UseRow, uses_len: usize,
         counts: *mut Counts,
@@ -221,6 +229,9 @@ unsafe extern "C" {
     fn tankpost_cut(
         head: Head,
         tags: *mut u16, tags_len: usize,
+        slots: *mut u32, slots_len: usize,
+        offsets: *mut Offsets,
+        free: *mut u32, free_len: usize,
         units: *mut UnitRow, units_len: usize,
         uses: *mut UseRow, uses_len: usize,
         counted: *mut CountedRow, counted_len: usize,
@@ -231,6 +242,9 @@ unsafe extern "C" {
     fn tankpost_report(
         head: Head,
         tags: *const u16, tags_len: usize,
+        slots: *const u32, slots_len: usize,
+        offsets: *const Offsets,
+        free: *const u32, free_len: usize,
         units: *const UnitRow, units_len: usize,
         uses: *const UseRow, uses_len: usize,
         counted: *const CountedRow, counted_len: usize,
@@ -239,16 +253,19 @@ unsafe extern "C" {
     fn tankpost_report_refusal(
         head: Head,
         tags: *const u16, tags_len: usize,
+        slots: *const u32, slots_len: usize,
+        offsets: *const Offsets,
+        free: *const u32, free_len: usize,
         units: *const UnitRow, units_len: usize,
         uses: *const UseRow, uses_len: usize,
         counted: *const CountedRow, counted_len: usize,
         out: *const u8, out_len: usize,
     ) -> u64;
-    fn tankpost_visited(head: Head) -> Count;
-    fn tankpost_cut_batches(head: Head, cause: u64) -> Count;
-    fn tankpost_level(head: Head, dim: u64) -> Level;
-    fn tankpost_rate(head: Head, dim: u64) -> Count;
-    fn tankpost_is_bounded(head: Head) -> Count;
+    fn tankpost_visited(head: Head, offsets: *const Offsets) -> Count;
+    fn tankpost_cut_batches(head: Head, offsets: *const Offsets, cause: u64) -> Count;
+    fn tankpost_level(head: Head, offsets: *const Offsets, dim: u64) -> Level;
+    fn tankpost_rate(head: Head, offsets: *const Offsets, dim: u64) -> Count;
+    fn tankpost_is_bounded(head: Head, offsets: *const Offsets) -> Count;
 }
 
 /// A shedder and the memory that it is lent.
@@ -257,6 +274,12 @@ pub struct Shedder {
     pub head: Head,
     /// Those of the unit records, then those of the counted records.
     pub tags: Vec<u16>,
+    /// Of each entry of the index the slot where its record's rows stand.
+    pub slots: Vec<u32>,
+    /// Where the part of each table begins in tags and slots, and where the last one ends.
+    pub offsets: Offsets,
+    /// The slots that no entry names, the next one last of them.
+    pub free: Vec<u32>,
     pub units: Vec<UnitRow>,
     pub uses: Vec<UseRow>,
     pub counts: Box<Counts>,
@@ -270,6 +293,9 @@ impl Shedder {
         Self {
             head: Head::default(),
             tags: vec![0; units + counted],
+            slots: vec![0; units],
+            offsets: [0; OFFSETS],
+            free: vec![0; units],
             units: vec![[0; 7]; units],
             uses: vec![[0.0; 2 * DIMS]; units],
             counts: Box::new([[0; BUCKETS]; DIMS]),
@@ -287,12 +313,15 @@ impl Shedder {
         let a = unsafe {
             tankpost_start(
                 self.head,
-                self.tags.as_ptr(), self.tags.len(),
-                self.units.as_ptr(), self.units.len(),
-                self.uses.as_ptr(), self.uses.len(),
+                self.tags.as_mut_ptr(), self.tags.len(),
+                self.slots.as_mut_ptr(), self.slots.len(),
+                &mut self.offsets,
+                self.free.as_mut_ptr(), self.free.len(),
+                self.units.as_mut_ptr(), self.units.len(),
+                self.uses.as_mut_ptr(), self.uses.len(),
                 &mut *self.counts,
                 &mut *self.sums,
-                self.counted.as_ptr(), self.counted.len(),
+                self.counted.as_mut_ptr(), self.counted.len(),
                 &rate,
                 &ceiling,
             )
@@ -311,6 +340,9 @@ impl Shedder {
             tankpost_judge(
                 self.head,
                 self.tags.as_mut_ptr(), self.tags.len(),
+                self.slots.as_mut_ptr(), self.slots.len(),
+                &mut self.offsets,
+                self.free.as_mut_ptr(), self.free.len(),
                 self.units.as_mut_ptr(), self.units.len(),
                 self.uses.as_mut_ptr(), self.uses.len(),
                 &mut *self.counts,
@@ -330,6 +362,9 @@ impl Shedder {
             tankpost_cut(
                 self.head,
                 self.tags.as_mut_ptr(), self.tags.len(),
+                self.slots.as_mut_ptr(), self.slots.len(),
+                &mut self.offsets,
+                self.free.as_mut_ptr(), self.free.len(),
                 self.units.as_mut_ptr(), self.units.len(),
                 self.uses.as_mut_ptr(), self.uses.len(),
                 self.counted.as_mut_ptr(), self.counted.len(),
@@ -346,6 +381,9 @@ impl Shedder {
             tankpost_report(
                 self.head,
                 self.tags.as_ptr(), self.tags.len(),
+                self.slots.as_ptr(), self.slots.len(),
+                &self.offsets,
+                self.free.as_ptr(), self.free.len(),
                 self.units.as_ptr(), self.units.len(),
                 self.uses.as_ptr(), self.uses.len(),
                 self.counted.as_ptr(), self.counted.len(),
@@ -359,6 +397,9 @@ impl Shedder {
             tankpost_report_refusal(
                 self.head,
                 self.tags.as_ptr(), self.tags.len(),
+                self.slots.as_ptr(), self.slots.len(),
+                &self.offsets,
+                self.free.as_ptr(), self.free.len(),
                 self.units.as_ptr(), self.units.len(),
                 self.uses.as_ptr(), self.uses.len(),
                 self.counted.as_ptr(), self.counted.len(),
@@ -368,22 +409,22 @@ impl Shedder {
     }
 
     pub fn visited(&self) -> Count {
-        unsafe { tankpost_visited(self.head) }
+        unsafe { tankpost_visited(self.head, &self.offsets) }
     }
 
     pub fn cut_batches(&self, cause: u64) -> Count {
-        unsafe { tankpost_cut_batches(self.head, cause) }
+        unsafe { tankpost_cut_batches(self.head, &self.offsets, cause) }
     }
 
     pub fn level(&self, dim: u64) -> Level {
-        unsafe { tankpost_level(self.head, dim) }
+        unsafe { tankpost_level(self.head, &self.offsets, dim) }
     }
 
     pub fn rate(&self, dim: u64) -> Count {
-        unsafe { tankpost_rate(self.head, dim) }
+        unsafe { tankpost_rate(self.head, &self.offsets, dim) }
     }
 
     pub fn is_bounded(&self) -> Count {
-        unsafe { tankpost_is_bounded(self.head) }
+        unsafe { tankpost_is_bounded(self.head, &self.offsets) }
     }
 }

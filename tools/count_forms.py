@@ -11,7 +11,7 @@ from pathlib import Path
 SHORT = (r"same\w*|less|wide\d*|lower|exact|number|whole|larger|later|least|both|either|one_if|one_more|is_admitted|is_overflow|is_over_share|"
          r"is_finite|is_max|is_fresh|of_dims|words_of|unit_of|as_u64|bits_of|double_of|infinity|since|digit|words|tagged|floats|numbers|whole_parts|"
          r"parts|causes|pick|dim_at|dim_of|cause_of|index_of|side_of|answer_of|\w+_number|\w+_code")
-LENT = ("tags", "units", "uses", "counts", "sums", "counted")
+LENT = ("tags", "slots", "offsets", "free", "units", "uses", "counts", "sums", "counted")
 
 
 def functions(text):

@@ -12,6 +12,9 @@ enum { UNITS = 256, COUNTED = 65 };
 
 static struct tankpost_head head;
 static uint16_t tags[UNITS + COUNTED];
+static uint32_t slots[UNITS];
+static tankpost_offsets offsets;
+static uint32_t free_slots[UNITS];
 static tankpost_unit_row units[UNITS];
 static tankpost_use_row uses[UNITS];
 static tankpost_counts counts;
@@ -20,15 +23,16 @@ static tankpost_counted_row counted[COUNTED];
 
 static int start(const uint64_t rate[2], const uint64_t ceiling[2]) {
     struct tankpost_answered a =
-        tankpost_start(head, tags, UNITS + COUNTED, (const tankpost_unit_row *)units, UNITS, (const tankpost_use_row *)uses, UNITS,
-                       &counts, &sums, (const tankpost_counted_row *)counted, COUNTED, rate, ceiling);
+        tankpost_start(head, tags, UNITS + COUNTED, slots, UNITS, &offsets, free_slots, UNITS, units, UNITS, uses, UNITS,
+                       &counts, &sums, counted, COUNTED, rate, ceiling);
     head = a.head;
     return (int)a.answer;
 }
 
 static int judge(struct tankpost_unit unit, const uint64_t cost[2], uint64_t stamp) {
-    struct tankpost_judged j = tankpost_judge(head, tags, UNITS + COUNTED, units, UNITS, uses, UNITS, &counts, &sums, counted,
-                                              COUNTED, unit, cost, stamp);
+    struct tankpost_judged j =
+        tankpost_judge(head, tags, UNITS + COUNTED, slots, UNITS, &offsets, free_slots, UNITS, units, UNITS, uses, UNITS,
+                       &counts, &sums, counted, COUNTED, unit, cost, stamp);
     head = j.head;
     return (int)j.decision.verdict;
 }
@@ -50,7 +54,7 @@ int main(int argc, char **argv) {
         if (sscanf(line, "R %" SCNu64 " %" SCNu64 " %" SCNu64 " %" SCNu64, &a[0], &a[1], &b[0], &b[1]) == 4) {
             if (start(a, b)) return 1;
         } else if (sscanf(line, "J %127s %" SCNu64 " %" SCNu64 " %" SCNu64, label, &a[0], &a[1], &stamp) == 4) {
-            const double level = tankpost_level(head, 0).value;
+            const double level = tankpost_level(head, (const tankpost_offsets *)&offsets, 0).value;
             const int answer = judge(unit_of(label), a, stamp);
             if (!strcmp(label, argv[1])) printf("%" PRIu64 " %" PRIu64 " %d %.17g\n", stamp, a[0], answer, level);
         }

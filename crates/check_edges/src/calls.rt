@@ -8,8 +8,8 @@ use text::Page;
 use trial::Trial;
 use wants::{BUCKETS, Histogram};
 
-fn start(step: &Step, head: Shedder, lent: &Lent<'_>, histogram: &mut Histogram<'_>) -> Tried {
-    let s = head::start(head, &lent.read(), histogram, step.amounts, [0; DIMS]);
+fn start(step: &Step, head: Shedder, lent: &mut Lent<'_>, histogram: &mut Histogram<'_>) -> Tried {
+    let s = head::start(head, lent, histogram, step.amounts, [0; DIMS]);
     Tried::new(s.answer.map(|()| None), s.head)
 }
 
@@ -91,7 +91,10 @@ pub fn answered(
         Call::Report => report(rt, head, lent, out),
         Call::WriteReport => write_report(rt, head, lent, out),
         Call::ReportRefusal => Ok(Tried::new(refusal(head, lent, out), head)),
-        Call::Reading(read) => Ok(Tried::new(check_steps::reading(read, head), head)),
+        Call::Reading(read) => Ok(Tried::new(
+            check_steps::reading(read, head, &*lent.offsets),
+            head,
+        )),
         Call::Fill => {
             *histogram.counts = [[4; BUCKETS]; DIMS];
             *histogram.sums = [[0.5; BUCKETS]; DIMS];

@@ -1,6 +1,6 @@
-// A step: the call over so much of the memory as it lends, with head and memory compared before and after.
+// A step: the call over so much of the memory as it lends, with head and memory compared before and after. Unfit offsets are made fit again behind it.
 use crate::calls;
-use check_steps::{Memory, OUT, Step, Tried};
+use check_steps::{Fault, Memory, OUT, Step, Tried};
 use head::Shedder;
 use std::io;
 use store::Lent;
@@ -19,10 +19,15 @@ pub fn tried(
     head: Shedder,
     memory: &mut Memory,
 ) -> io::Result<Tried> {
+    let offsets = memory.offsets;
+    memory.offsets = step.fault.parted(offsets);
     let was = *memory;
     let mut out = [b'.'; OUT];
     let mut lent = Lent {
         tags: first(&mut memory.tags, step.lent.tags),
+        slots: first(&mut memory.slots, step.lent.slots),
+        offsets: &mut memory.offsets,
+        free: first(&mut memory.free, step.lent.free),
         units: first(&mut memory.units, step.lent.units),
         uses: first(&mut memory.uses, step.lent.uses),
         counted: first(&mut memory.counted, step.lent.counted),
@@ -36,5 +41,8 @@ pub fn tried(
     tried.unchanged = tried.unchanged
         && check_steps::is_as_before(memory, &was, &out, tried.at)
         && check_steps::same_head(&tried.head, &head);
+    if step.fault != Fault::Fit {
+        memory.offsets = offsets;
+    }
     Ok(tried)
 }

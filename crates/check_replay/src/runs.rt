@@ -40,6 +40,9 @@ fn say_state(rt: &impl Print, r: &Replayed, m: &Memory<TAGS, UNITS, COUNTED>) ->
     let mut own = [0; REPORT];
     let rows = LentRead {
         tags: &m.tags,
+        slots: &m.slots,
+        offsets: &m.offsets,
+        free: &m.free,
         units: &m.units,
         uses: &m.uses,
         counted: &m.counted,
@@ -64,6 +67,9 @@ pub fn run(
     // parts of them.)
     let mut lent = Lent {
         tags: &mut m.tags,
+        slots: &mut m.slots,
+        offsets: &mut m.offsets,
+        free: &mut m.free,
         units: &mut m.units,
         uses: &mut m.uses,
         counted: &mut m.counted,
@@ -74,7 +80,7 @@ pub fn run(
     };
     let begun = head::start(
         trial::unstarted().head,
-        &lent.read(),
+        &mut lent,
         &mut histogram,
         start.rate.into(),
         start.ceiling.into(),

@@ -14,7 +14,8 @@ use head::{Refusal, Shedder};
 pub use proved::run;
 pub use readers::reading;
 pub use same::{is_as_before, same_head};
-pub use steps::{Call, Read, Step, all_steps};
+pub use steps::{Call, Fault, Read, Step, all_steps};
+use store::OFFSETS;
 pub use tells::{line, tell};
 use verdict::Verdict;
 use wants::BUCKETS;
@@ -35,6 +36,9 @@ pub type Memory = trial_memory::Memory<TAGS, UNITS, COUNTED>;
 pub fn filled() -> Memory {
     Memory {
         tags: [0x0101; TAGS],
+        slots: [0x03030303; UNITS],
+        offsets: [0x04040404; OFFSETS],
+        free: [0x05050505; UNITS],
         units: [[0x0202020202020202; 7]; UNITS],
         uses: [[0.3; 2 * DIMS]; UNITS],
         counts: [[4; BUCKETS]; DIMS],

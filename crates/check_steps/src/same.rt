@@ -74,6 +74,9 @@ pub fn same_head(a: &Shedder, b: &Shedder) -> bool {
 
 fn same_memory(a: &Memory, b: &Memory) -> bool {
     a.tags == b.tags
+        && a.slots == b.slots
+        && a.offsets == b.offsets
+        && a.free == b.free
         && a.units == b.units
         && same_rows(&a.uses, &b.uses)
         && a.counts == b.counts

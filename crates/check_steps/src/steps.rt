@@ -5,6 +5,7 @@ use flow::{DIMS, RATE_MOST};
 use head::{STAMP_END, Shedder};
 use sender::{Group, Unit};
 use std::alloc::{AllocError, Global};
+use store::OFFSETS;
 use trial_script::LINE_MOST;
 
 // A reading of the head.
@@ -35,7 +36,7 @@ pub enum Call {
     },
 }
 
-// The part of the head that is made unfit. Fit is one of them and no None: a step is printed with its fault's number, 0 for Fit.
+// The part of the head, or of the offsets, that is made unfit. Fit is one of them and no None: a step is printed with its fault's number, 0 for Fit.
 #[derive(Clone, Copy, PartialEq)]
 pub enum Fault {
     Fit,
@@ -53,12 +54,17 @@ pub enum Fault {
     OneCountedRoom,
     TrackedAbove,
     CountedAbove,
+    OffsetsBegin,
+    OffsetsFall,
+    OffsetsEnd,
 }
 
 // How much is lent: records, and bytes of the report's buffer.
 #[derive(Clone, Copy)]
 pub struct Lengths {
     pub tags: usize,
+    pub slots: usize,
+    pub free: usize,
     pub units: usize,
     pub uses: usize,
     pub counted: usize,
@@ -95,7 +101,7 @@ impl Fault {
     // The head with that part made unfit.
     pub fn made(self, mut head: Shedder) -> Shedder {
         match self {
-            Fault::Fit => {}
+            Fault::Fit | Fault::OffsetsBegin | Fault::OffsetsFall | Fault::OffsetsEnd => {}
             Fault::RateZero => head.flow.rate[0] = 0,
             Fault::RateAbove => head.flow.rate[DIMS - 1] = RATE_MOST + 1,
             Fault::Clock => head.flow.at_ms = STAMP_END,
@@ -113,9 +119,24 @@ impl Fault {
         }
         head
     }
+
+    // The offsets with that part made unfit.
+    pub fn parted(self, mut offsets: [u32; OFFSETS]) -> [u32; OFFSETS] {
+        match self {
+            Fault::OffsetsBegin => {
+                for offset in &mut offsets {
+                    *offset = (*offset).max(1);
+                }
+            }
+            Fault::OffsetsFall => offsets[32] = 3,
+            Fault::OffsetsEnd => offsets[64] = 3,
+            _ => {}
+        }
+        offsets
+    }
 }
 
-const FAULTS: [Fault; 14] = [
+const FAULTS: [Fault; 17] = [
     Fault::RateZero,
     Fault::RateAbove,
     Fault::Clock,
@@ -130,6 +151,9 @@ const FAULTS: [Fault; 14] = [
     Fault::OneCountedRoom,
     Fault::TrackedAbove,
     Fault::CountedAbove,
+    Fault::OffsetsBegin,
+    Fault::OffsetsFall,
+    Fault::OffsetsEnd,
 ];
 
 const READS: [Read; 5] = [
@@ -181,6 +205,8 @@ impl Step {
             fault: Fault::Fit,
             lent: Lengths {
                 tags: 7,
+                slots: 4,
+                free: 4,
                 units: 4,
                 uses: 4,
                 counted: 3,
@@ -221,14 +247,23 @@ impl Step {
         self
     }
 
+    // Of the index and the free slots as many as of the unit records.
     fn lent(mut self, tags: usize, units: usize, uses: usize, counted: usize) -> Step {
         self.lent = Lengths {
             tags,
+            slots: units,
+            free: units,
             units,
             uses,
             counted,
             out: self.lent.out,
         };
+        self
+    }
+
+    fn slots(mut self, slots: usize, free: usize) -> Step {
+        self.lent.slots = slots;
+        self.lent.free = free;
         self
     }
 
@@ -304,6 +339,8 @@ fn lent_unfit(steps: &mut Vec<Step>, call: Call) -> Result<(), AllocError> {
         step.lent(6, 3, 4, 3),
         step.lent(7, 4, 3, 3),
         step.lent(6, 4, 4, 2),
+        step.slots(3, 4),
+        step.slots(4, 3),
     ])
 }
 
@@ -328,6 +365,8 @@ fn starts_refused(steps: &mut Vec<Step>) -> Result<(), AllocError> {
         start.lent(6, 4, 4, 3),
         start.lent(6, 3, 4, 3),
         start.lent(7, 4, 3, 3),
+        start.slots(3, 4),
+        start.slots(4, 3),
         start.lent(3, 0, 0, 3),
         start.lent(5, 4, 4, 1),
         start.lent(0, 0, 0, 0).amounts(0, 0),
@@ -353,7 +392,8 @@ fn judgements_refused(steps: &mut Vec<Step>) -> Result<(), AllocError> {
 
 // Questions 3 to 5.
 fn cuts_refused(steps: &mut Vec<Step>) -> Result<(), AllocError> {
-    steps.extend_from_slice(&[Step::refused(Call::Cut).fault(Fault::RateZero)])?;
+    let cut = Step::refused(Call::Cut);
+    steps.extend_from_slice(&[cut.fault(Fault::RateZero), cut.fault(Fault::OffsetsFall)])?;
     lent_unfit(steps, Call::Cut)?;
     cost_unfit(steps, Call::Cut)
 }
@@ -362,7 +402,7 @@ fn cuts_refused(steps: &mut Vec<Step>) -> Result<(), AllocError> {
 fn reports_refused(steps: &mut Vec<Step>) -> Result<(), AllocError> {
     for call in [Call::Report, Call::WriteReport, Call::ReportRefusal] {
         let step = Step::refused(call);
-        steps.extend_from_slice(&[step.fault(Fault::RateZero)])?;
+        steps.extend_from_slice(&[step.fault(Fault::RateZero), step.fault(Fault::OffsetsFall)])?;
         lent_unfit(steps, call)?;
         let short = step.buffer(134);
         steps.extend_from_slice(&[short, short.lent(6, 4, 4, 3).fault(Fault::RateZero)])?;
@@ -374,7 +414,7 @@ fn reports_refused(steps: &mut Vec<Step>) -> Result<(), AllocError> {
 fn readings_refused(steps: &mut Vec<Step>) -> Result<(), AllocError> {
     for read in READS {
         let step = Step::refused(Call::Reading(read));
-        steps.extend_from_slice(&[step.fault(Fault::RateZero)])?;
+        steps.extend_from_slice(&[step.fault(Fault::RateZero), step.fault(Fault::OffsetsFall)])?;
     }
     Ok(())
 }

@@ -33,8 +33,9 @@ impl fmt::Display for Step {
         let fault = self.fault as u64;
         let lent = self.lent;
         let [first, second] = self.amounts;
-        write!(f, "{name} fault {fault} lent {} {} ", lent.tags, lent.units)?;
-        write!(f, "{} {} {} ", lent.uses, lent.counted, lent.out)?;
+        write!(f, "{name} fault {fault} lent {} {} ", lent.tags, lent.slots)?;
+        write!(f, "{} {} {} ", lent.free, lent.units, lent.uses)?;
+        write!(f, "{} {} ", lent.counted, lent.out)?;
         write!(f, "amounts {first} {second} stamp {}", self.stamp)
     }
 }

@@ -9,7 +9,8 @@ use Rattle.sender.specs.declared.Unit.{Unit}
 use Rattle.store.specs.Store.{Rows}
 use Rattle.head.specs.declared.Flow.{Flow}
 use Rattle.head.specs.declared.Shedder.{Shedder}
-use Rattle.store_entry.specs.Entering.{Place, Entered, entered, entry, used_at, back, put_back, headed}
+use Rattle.store_entry.specs.Entering.{Place, Entered, entered, entry, used_at, back, put_back}
+use Rattle.head.specs.Headed.{headed}
 use Rattle.cut.specs.Cutting.{lowered, flowed_back, kept_by, handed_with, handed_at, handed_back}
 
 pub handed_is : (h : Shedder) (m : Rows) (u : Unit) (cost : List Float)

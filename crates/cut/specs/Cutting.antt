@@ -17,7 +17,8 @@ use Rattle.head.specs.Answers.{refused}
 use Rattle.cut.specs.declared.Cutting.{Cutting}
 use Rattle.head.specs.Questions.{is_unbounded, cut_asked}
 use Rattle.head.specs.Readings.{index_of}
-use Rattle.store_entry.specs.Entering.{Entered, entry, used_at, Back, put_back, headed}
+use Rattle.store_entry.specs.Entering.{Entered, entry, used_at, Back, put_back}
+use Rattle.head.specs.Headed.{headed}
 use Rattle.cut_counts.specs.Counting.{Tally, tally, tallied}
 
 -- a bounded relay hands back a cut for the receiver's ceiling
@@ -90,6 +91,6 @@ cut_after k u c cost s = cut_noted s.rows (noted (tally s.head s.rows.tags k) (s
 -- THE CUT: the first question answered no gives its number and nothing changes
 unfoldable pub cut : Shedder → Rows → List (List ℕ) → unit.Unit → Cause → List ℕ → Cut
 cut h m k u c cost =
-    cond (eqb (cut_asked h (sizes_of m k) cost) 0)
+    cond (eqb (cut_asked h (sizes_of m k) m.offsets cost) 0)
     (cond (hands_back h.flow.rate c) (cut_after k u c cost (handed_back (kept_by h m) u (flow.numbers cost))) (cut_after k u c cost (kept_by h m)))
-    (cut_ends (refused (cut_asked h (sizes_of m k) cost)) h m k)
+    (cut_ends (refused (cut_asked h (sizes_of m k) m.offsets cost)) h m k)

@@ -2,7 +2,10 @@
 #![tactic(auto)]
 
 ghost use Rattle.std.specs.Prelude.{◌≡◌, ◌<◌, ◌≤◌, ◌+◌, length};
-ghost use Rattle.store.specs.Held.{held, Room, SameSlices, lent_rows, lent_sizes, SameLent};
+ghost use Rattle.parts.specs.Held.{held, SameParts, Sized};
+ghost use Rattle.shifting.specs.Offsets.{Whole};
+ghost use Rattle.store.specs.Held.{lent_rows, lent_sizes, SameLent};
+ghost use Rattle.store.specs.Store.{with_tags};
 ghost use Rattle.head.specs.Answers as answers;
 ghost use Rattle.head.specs.Questions as asked;
 ghost use Rattle.head.specs.Bits.{SameButNanBits};
@@ -11,8 +14,9 @@ ghost use Rattle.cut.specs.Cutting as cutting;
 
 use flow::DIMS;
 use head::{Cause, Flow, Refusal, Shedder};
+use parts::Parts;
 use sender::{Named, Unit};
-use store::{Lent, Records};
+use store::Lent;
 
 // What a cut answers, and the head after it. As head's `Starting`: each definition speaks of its own call's answer by name.
 #[derive(Clone, Copy)]
@@ -51,19 +55,21 @@ fn flowed_back(f: Flow, cost: [f64; DIMS]) -> Flow
 }
 
 // All of a batch is handed back.
-fn handed_back(head: Shedder, records: &mut Records<'_>, named: Named, cost: [f64; DIMS]) -> Shedder
-    requires records_room { Room records.old head.unit_room }
+fn handed_back(head: Shedder, parts: &mut Parts<'_>, named: Named, cost: [f64; DIMS]) -> Shedder
+    requires sizes { Sized (held parts.old) }
+    requires room { length parts.old.units.now ≡ head.unit_room }
     requires tracked_bound { head.tracked ≤ head.unit_room }
-    ensures uses_after { cutting.kept_by result (held records.new)
-        ≡ cutting.handed_back (cutting.kept_by head (held records.old)) named.unit cost }
+    requires whole { Whole parts.old.offsets.now head.tracked }
+    ensures rows_after { cutting.kept_by result (held parts.new)
+        ≡ cutting.handed_back (cutting.kept_by head (held parts.old)) named.unit cost }
     ensures counted_value { result.counted ≡ head.counted }
     ensures unit_room_value { result.unit_room ≡ head.unit_room }
-    ensures slices { SameSlices records.old records.new }
+    ensures slices { SameParts parts.old parts.new }
 {
-    let p = store_entry::entry(records, head.tracked, named, head.flow.at_ms);
-    let used = store_entry::used_at(records, head.overflow, p.at);
+    let p = store_entry::entry(parts, head.tracked, named, head.flow.at_ms);
+    let used = store_entry::used_at(parts, head.overflow, p.at);
     let next = used.handed_back(cost);
-    let overflow = store_entry::put_back(records, head.overflow, p.at, next);
+    let overflow = store_entry::put_back(parts, head.overflow, p.at, next);
     let flow = flowed_back(head.flow, cost);
     Shedder {
         flow,
@@ -85,8 +91,7 @@ fn noted(
     requires counted_in_bounds_2 { head.counted < length lent.old.counted.now }
     ensures counted_after { cutting.noting result lent.new.tags.now lent.new.counted.now
         ≡ cutting.noted (counting.tally head lent.old.tags.now lent.old.counted.now) named.name cause cost }
-    ensures units_after { lent.new.units.now ≡ lent.old.units.now }
-    ensures uses_after { lent.new.uses.now ≡ lent.old.uses.now }
+    ensures rows_after { lent_rows lent.new ≡ with_tags (lent_rows lent.old) lent.new.tags.now }
     ensures answer_value { answers.cut_number result.answer ≡ 0 }
     ensures slices { SameLent lent.old lent.new }
 {
@@ -109,10 +114,10 @@ pub fn cut(
         (cutting.cutting result (lent_rows lent.new) lent.new.counted.now)
         (cutting.cut head (lent_rows lent.old) lent.old.counted.now unit cause cost) }
     ensures answer_value { answers.cut_number result.answer
-        ≡ asked.cut_asked head (lent_sizes lent.old) cost }
+        ≡ asked.cut_asked head (lent_sizes lent.old) lent.old.offsets.now cost }
     ensures slices { SameLent lent.old lent.new }
 {
-    if let Err(refusal) = head::cut_asked(head, lent.sizes(), cost) {
+    if let Err(refusal) = head::cut_asked(head, lent.sizes(), lent.offsets, cost) {
         return Cutting {
             answer: Err(refusal),
             head,
@@ -121,12 +126,15 @@ pub fn cut(
     let named = Named::of(unit);
     if hands_back(head.flow.rate, cause) {
         // Made here: a method of `Lent` could not promise what the rows hold once they come back.
-        let mut records = Records {
+        let mut parts = Parts {
             tags: &mut *lent.tags,
+            slots: &mut *lent.slots,
+            offsets: &mut *lent.offsets,
+            free: &mut *lent.free,
             units: &mut *lent.units,
             uses: &mut *lent.uses,
         };
-        let h = handed_back(head, &mut records, named, flow::numbers(cost));
+        let h = handed_back(head, &mut parts, named, flow::numbers(cost));
         return noted(h, lent, named, cause, cost);
     }
     noted(head, lent, named, cause, cost)

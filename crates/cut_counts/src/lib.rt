@@ -3,7 +3,8 @@
 
 ghost use Rattle.std.specs.Prelude.{◌≡◌, ◌+◌, ◌<◌, MatchOption, true, false, length};
 ghost use Rattle.verdict.specs.Verdict.{is_admitted};
-ghost use Rattle.store.specs.Held.{SameLent};
+ghost use Rattle.store.specs.Held.{lent_rows, SameLent};
+ghost use Rattle.store.specs.Store.{with_tags};
 ghost use Rattle.store.specs.Causes.{index_of};
 ghost use Rattle.cut_sources.specs.Counted as counts;
 ghost use Rattle.cut_counts.specs.Counting as counting;
@@ -66,8 +67,7 @@ fn sourced(lent: &mut Lent<'_>, room: usize, had: usize, named: Named, cause: Ca
     requires had_in_bounds_2 { had < length lent.old.counted.now }
     ensures counted_after { counting.sources result lent.new.tags.now lent.new.counted.now
         ≡ counting.sourced room lent.old.tags.now lent.old.counted.now had named.name (index_of cause) }
-    ensures units_after { lent.new.units.now ≡ lent.old.units.now }
-    ensures uses_after { lent.new.uses.now ≡ lent.old.uses.now }
+    ensures rows_after { lent_rows lent.new ≡ with_tags (lent_rows lent.old) lent.new.tags.now }
     ensures slices { SameLent lent.old lent.new }
 {
     listed(&mut lent.tags[room..], lent.counted, had, named, cause)
@@ -89,8 +89,7 @@ pub fn tallied(
         ≡ counting.tallied (counting.tally h lent.old.tags.now lent.old.counted.now) named.name (index_of cause) receptions }
     ensures tracked_value { result.tracked ≡ h.tracked }
     ensures scan_value { result.scan ≡ h.scan }
-    ensures units_after { lent.new.units.now ≡ lent.old.units.now }
-    ensures uses_after { lent.new.uses.now ≡ lent.old.uses.now }
+    ensures rows_after { lent_rows lent.new ≡ with_tags (lent_rows lent.old) lent.new.tags.now }
     ensures slices { SameLent lent.old lent.new }
 {
     let n = sourced(lent, h.unit_room, h.counted, named, cause);
@@ -111,8 +110,7 @@ pub fn count_verdict(
         ≡ counting.count_verdict (counting.tally h lent.old.tags.now lent.old.counted.now) named.name verdict cost }
     ensures tracked_value { result.tracked ≡ h.tracked }
     ensures scan_value { result.scan ≡ h.scan }
-    ensures units_after { lent.new.units.now ≡ lent.old.units.now }
-    ensures uses_after { lent.new.uses.now ≡ lent.old.uses.now }
+    ensures rows_after { lent_rows lent.new ≡ with_tags (lent_rows lent.old) lent.new.tags.now }
     ensures slices { SameLent lent.old lent.new }
 {
     let Some(cause) = cause_of(verdict) else {

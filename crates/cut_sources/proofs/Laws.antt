@@ -1,13 +1,16 @@
 -- Pruning leaves exactly the sources whose total is above k, in their order, with their tags, and zero bits behind them. Assumes nothing.
-use Rattle.std.proofs.Common.{◌≡◌, ℕ, zero, suc, ◌+◌, ◌%◌, ◌^◌, ◌<◌, ◌≤◌, Bool, true, false, cond, eqb, ltb, List, [], ◌∷◌, ◌++◌, map, length, get_or, set, sym, refl, ap, ◌∙◌, add-one, arith, length-append, length-set, get_or-set_other, get_or-set_same, le-ltb, lt-ltb, eq-eqb, ne_eqb}
+use Rattle.std.proofs.Common.{◌≡◌, ℕ, zero, suc, ◌+◌, ◌%◌, ◌^◌, ◌<◌, ◌≤◌, Bool, true, false, cond, eqb, ltb, List, [], ◌∷◌, ◌++◌, map, length, get_or, set, sym, refl, ap, ◌∙◌, add-one, arith, length-append, length-set, lt-length-set, get_or-set_other, get_or-set_same, le-ltb, lt-ltb, eq-eqb, ne_eqb}
 use native.Mathlib.Decide.{ℕ_discrete, dec_lt}
-use Rattle.store.proofs.Places.{put_there}
 use Rattle.cut_sources.specs.Sorted.{one_if, sorted, below}
 use Rattle.cut_sources.specs.Counted.{Sources, sources, row_put, total, total_at, totals, keep_from, free, prune, prune_one, pruned, tag_put, tag_moved, prune_tags, pruned_tags}
 use Rattle.cut_sources.specs.Laws.{times, Sorts, at_quarter, Source, source_at, listed, zero_bits, sum, keep, above, Leaves, Prunes}
 use Rattle.cut_sources.proofs.Sorted.{below_sorted, sorted_entries}
 use Rattle.cut_sources.proofs.Pruning.{totals_next, prune_none, prune_next}
 use Rattle.cut_sources.proofs.Tagged.{prune_tags_none, prune_tags_next}
+
+-- what was put last at k stands there
+put_there : {A : Type 0} (l : List A) (i k : ℕ) (x y d : A) → k < length l → get_or (set (set l i x) k y) k d ≡ y
+put_there l i k x y d h = get_or-set_same (set l i x) k y d (lt-length-set l i x h)
 
 -- ---- the sorted totals
 -- the numbers up to x are those below it and those that are x

@@ -1,11 +1,12 @@
 -- Finding a source by what it reads as. Assumes nothing.
-use Rattle.std.proofs.Common.{◌≡◌, ℕ, zero, suc, ◌<◌, Bool, true, false, List, refl, sym, ap, ◌∙◌, arith, true≢false, Some, None}
+use Rattle.std.proofs.Common.{◌≡◌, ℕ, zero, suc, ◌<◌, Bool, true, false, ◌&&◌, List, refl, sym, ap, ◌∙◌, arith, true≢false, Some, None}
 use Rattle.sender.specs.Sender.{name_of, is_overflow, reads, same_name}
 use Rattle.sender.specs.declared.Unit.{Unit}
+use Rattle.sender.specs.declared.Name.{Name}
 use Rattle.sender.specs.declared.Unit.TheVariants.{Overflow}
 use Rattle.sender.proofs.Naming.{name_injective}
 use Rattle.sender.proofs.Reading.{names_same, names_self, read_same, read_shared}
-use Rattle.store.specs.Store.{first, is_at, find, unit_at, name_at}
+use Rattle.store.specs.Store.{first, has_tag, same, words_at, unit_at, name_at}
 use Rattle.store.specs.Found.{found}
 use Rattle.store.proofs.Found.{some_found, none_found}
 use Rattle.store.proofs.Steps.{first_all, first_found, first_holds, first_least, first_some}
@@ -18,9 +19,12 @@ unfolding first
 first_alike p q e zero = refl
 first_alike p q e (suc n) = rw (first_alike p q e n, e n) refl
 
--- of a unit that is not overflow: the raw words are compared
-pub find_own : (tags : List ℕ) (rows : List (List ℕ)) (u : Unit) (n : ℕ) → reads (name_of u) ≡ u → is_overflow u ≡ false → find tags rows (name_of u) n ≡ counted_find tags rows (name_of u) n
-unfolding find counted_find is_at counted_is unit_at same_name
+-- of a unit that is not overflow: the raw tag and words are compared
+abbrev pub raw_at : List ℕ → List (List ℕ) → Name → ℕ → Bool
+raw_at tags rows name k = has_tag tags name.tag k && same (words_at rows k) name.words
+
+pub find_own : (tags : List ℕ) (rows : List (List ℕ)) (u : Unit) (n : ℕ) → reads (name_of u) ≡ u → is_overflow u ≡ false → first (raw_at tags rows (name_of u)) n ≡ counted_find tags rows (name_of u) n
+unfolding counted_find counted_is unit_at same_name has_tag
 find_own tags rows u n r o = first_alike _ _ (λ k. sym (read_same u (name_at tags rows k) r o)) n
 
 -- and of overflow: what is read is

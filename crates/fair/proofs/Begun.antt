@@ -1,11 +1,11 @@
 -- What a start at bounded rates leaves is tied to the model's first store, and every fill is lawful. Assumes nothing.
 use mathlib.Core.Path.{◌≡◌, refl, sym, ap, ◌∙◌, subst}
-use Prim.Native.Nat.{ℕ, ◌*◌, ◌^◌, ◌≤◌, ◌<◌}
+use Prim.Native.Nat.{ℕ, ◌+◌, ◌*◌, ◌^◌, ◌≤◌, ◌<◌}
 use native.Mathlib.Nat.{le_refl, le_of_eq, le_trans, mul-le-mul_right}
 use native.Mathlib.Omega.{arith}
-use mathlib.Core.Bool.{Bool, true, false, cond}
+use mathlib.Core.Bool.{Bool, true, false, cond, ◌&&◌, ◌||◌}
 use mathlib.Core.List.{List, []}
-use lib.Dec.{eqb}
+use lib.Dec.{eqb, ltb}
 use lib.ListN.{length, get_or, replicate, length-replicate}
 use lib.Ieee.{Float, nan, binary64, of_bits, of_int}
 use Rattle.ieee.specs.Doubles.{nothing, whole}
@@ -17,8 +17,13 @@ use Rattle.ieee.specs.Extremes.{least}
 use Rattle.flow.specs.Flow.{dims, at, bucket_at}
 use Rattle.flow.specs.declared.Bucket.{Bucket}
 use Rattle.flow.proofs.Parts.{upto_at, upto_length, buckets_at}
-use Rattle.store.specs.Store as store
 use Rattle.store.specs.Held.{sizes_of}
+use Rattle.store.specs.declared.lent.Sizes.{Sizes}
+use Rattle.parts.specs.Parts.{Rows, started}
+use Rattle.parts.specs.Held.{Sized}
+use Rattle.std.proofs.lemmas.Bool.{and_parts}
+use Rattle.head.proofs.Tests.{zero_yes, no_yes}
+use borrow.Author.Tests.{ltb-false, eqb-true}
 use Rattle.wants.specs.Wants as wants
 use Rattle.head.specs.declared.Shedder.{Shedder}
 use Rattle.std.proofs.Common.{Ok}
@@ -30,9 +35,8 @@ use Rattle.fair.specs.Calls as calls
 use Rattle.ieee.proofs.Extremes.{least-is}
 use Rattle.fair.proofs.Level as lvl
 use Rattle.fair.proofs.Level.{Level, finite}
-use Rattle.fair.proofs.View as view
-use Rattle.fair.proofs.View.{Name, same, shares}
-use Rattle.fair.proofs.Sweep.{Wide}
+use Rattle.fair.proofs.View.{Name, same, shares, listed}
+use Rattle.fair.proofs.Stored.{held_started}
 use Rattle.fair.proofs.Entry as entry
 use Rattle.fair.proofs.Tied.{Tied}
 use Rattle.fair.proofs.Judging as judging
@@ -93,10 +97,10 @@ abbrev pub by_dim : List ℕ → ℕ → ℕ
 by_dim xs d = get_or xs d 0
 
 -- ---- what a start leaves
-opening_tied : (room : ℕ) (rate ceiling : List ℕ) (counted : ℕ) (m : store.Rows) → goal.all_rates rate ≡ true
-    → Tied room rate (goal.opening rate ceiling room counted) m (model.store Name same shares room (by_dim rate) (by_dim ceiling) []) 0
-unfolding goal.opening model.store view.listed Wide
-opening_tied room rate ceiling counted m rates = record {
+opening_tied : (rate ceiling : List ℕ) (counted : ℕ) (m : Rows) → Sized m → goal.all_rates rate ≡ true
+    → Tied (length m.units) rate (goal.opening rate ceiling (length m.units) counted) (started m) (model.store Name same shares (length m.units) (by_dim rate) (by_dim ceiling) []) 0
+unfolding goal.opening model.store listed
+opening_tied rate ceiling counted m z rates = record {
   rate_is = refl;
   room_is = refl;
   clock_is = refl;
@@ -107,22 +111,87 @@ opening_tied room rate ceiling counted m rates = record {
   whole = entry.new_whole 0;
   level_is = first_lawful rate rates;
   scan_is = le_refl 0;
-  wide = λ j h. absurd (omega arith);
+  tables_is = let x : 0 ≤ 64 = omega arith in x;
+  held = held_started (length m.units) m z refl;
 }
 
-started : (n : ℕ) (h o : Shedder) (g k : wants.Hist) (a : Bool) → (cond a (goal.start_ends (Ok tt) o k) (goal.start_ends (refused n) h g)).answer ≡ Ok tt
-    → (cond a (goal.start_ends (Ok tt) o k) (goal.start_ends (refused n) h g)).head ≡ o
-started n h o g k true e = refl
-started n h o g k false e = absurd (let z : ◌≡◌ {A = ℕ} 0 1 = cc in omega arith)
+-- ---- what question 2 shows
+-- so many unit records and counted records
+pub record Rooms (u c : ℕ) : Type 0 where
+  pub some : 1 ≤ u
+  pub most : u ≤ 131072
+  pub two : 2 ≤ c
+  pub counted : c ≤ 4097
 
-pub left_is : (was : Shedder) (m : Memory) (rate ceiling : List ℕ) → (calls.starts was m rate ceiling).answer ≡ Ok tt → (calls.starts was m rate ceiling).head ≡ goal.opening rate ceiling (length m.rows.units) (length m.counted)
-unfolding goal.start
-left_is was m rate ceiling e =
-    started (goal.start_asked rate (sizes_of m.rows m.counted)) was (goal.opening rate ceiling (length m.rows.units) (length m.counted)) m.hist wants.cleared
-    (eqb (goal.start_asked rate (sizes_of m.rows m.counted)) 0) e
+rooms_of : (u c t k : ℕ) → goal.rooms_whole u c t k ≡ true → Rooms u c
+unfolding goal.rooms_whole
+rooms_of u c t k e =
+    let a = no_yes (ltb u 1) _ e in
+    let b = no_yes (ltb 131072 u) _ a.1 in
+    let d = no_yes (ltb c 2) _ b.1 in
+    let f = no_yes (ltb 4097 c) _ d.1 in
+    record { some = ltb-false u 1 a.0; most = ltb-false 131072 u b.0; two = ltb-false c 2 d.0; counted = ltb-false 4097 c f.0 }
 
-pub left_tied : (was : Shedder) (m : Memory) (rate ceiling : List ℕ) → goal.all_rates rate ≡ true → (calls.starts was m rate ceiling).answer ≡ Ok tt
-    → Tied (length m.rows.units) rate (calls.left was m rate ceiling).head m.rows (model.store Name same shares (length m.rows.units) (by_dim rate) (by_dim ceiling) []) 0
-left_tied was m rate ceiling rates e =
-    subst (λ (h : Shedder). Tied (length m.rows.units) rate h m.rows (model.store Name same shares (length m.rows.units) (by_dim rate) (by_dim ceiling) []) 0) (sym (left_is was m rate ceiling e))
-    (opening_tied (length m.rows.units) rate ceiling (length m.counted) m.rows rates)
+pub record SizesWhole (s : Sizes) : Type 0 where
+  pub tags : s.tags ≡ s.units + s.counted
+  pub slots : s.slots ≡ s.units
+  pub free : s.free ≡ s.units
+  pub uses : s.uses ≡ s.units
+  pub rooms : Rooms s.units s.counted
+
+asked_sizes : (rate : List ℕ) (s : Sizes) → goal.start_asked rate s ≡ 0 → SizesWhole s
+unfolding goal.start_asked goal.sizes_whole goal.tags_whole goal.slots_whole
+asked_sizes rate s e =
+    let a = zero_yes (goal.is_unbounded rate || goal.all_rates rate) _ 0 e in
+    let b = zero_yes (goal.sizes_whole s) 0 1 a.1 in
+    let c = and_parts (eqb s.tags (s.units + s.counted)) _ b.0 in
+    let d = and_parts (goal.slots_whole s) (goal.rooms_whole s.units s.counted 0 0) c.1 in
+    let f = and_parts (eqb s.slots s.units) (eqb s.free s.units && eqb s.uses s.units) d.0 in
+    let g = and_parts (eqb s.free s.units) (eqb s.uses s.units) f.1 in
+    record {
+      tags = eqb-true s.tags (s.units + s.counted) c.0;
+      slots = eqb-true s.slots s.units f.0;
+      free = eqb-true s.free s.units g.0;
+      uses = eqb-true s.uses s.units g.1;
+      rooms = rooms_of s.units s.counted 0 0 d.1;
+    }
+
+sized : (m : Rows) (k : List (List ℕ)) → SizesWhole (sizes_of m k) → Sized m
+sized m k z = record {
+  some = let a = z.rooms.some in omega arith;
+  most = z.rooms.most;
+  tags = let a = z.tags in omega arith;
+  slots = z.slots;
+  free = z.free;
+  uses = z.uses;
+}
+
+-- ---- a start that is not refused
+started_so : (n : ℕ) (h o : Shedder) (m r : Rows) (g k : wants.Hist) (a : Bool) → (cond a (goal.start_ends (Ok tt) o r k) (goal.start_ends (refused n) h m g)).answer ≡ Ok tt → a ≡ true
+started_so n h o m r g k true e = refl
+started_so n h o m r g k false e = absurd (let z : ◌≡◌ {A = ℕ} 0 1 = cc in omega arith)
+
+module _ (was : Shedder) (m : Memory) (rate ceiling : List ℕ) (e : (calls.starts was m rate ceiling).answer ≡ Ok tt) where
+  abbrev asked : ℕ
+  asked = goal.start_asked rate (sizes_of m.rows m.counted)
+
+  abbrev opens : Shedder
+  opens = goal.opening rate ceiling (length m.rows.units) (length m.counted)
+
+  asked_yes : eqb asked 0 ≡ true
+  unfolding goal.start
+  asked_yes = started_so asked was opens m.rows (started m.rows) m.hist wants.cleared (eqb asked 0) e
+
+  pub start_sizes : SizesWhole (sizes_of m.rows m.counted)
+  start_sizes = asked_sizes rate (sizes_of m.rows m.counted) (eqb-true asked 0 asked_yes)
+
+  pub left_is : calls.starts was m rate ceiling ≡ goal.start_ends (Ok tt) opens (started m.rows) wants.cleared
+  unfolding goal.start
+  left_is = ap (λ (c : Bool). cond c (goal.start_ends (Ok tt) opens (started m.rows) wants.cleared) (goal.start_ends (refused asked) was m.rows m.hist)) asked_yes
+
+  pub left_tied : goal.all_rates rate ≡ true
+      → Tied (length m.rows.units) rate (calls.left was m rate ceiling).head (calls.left was m rate ceiling).memory.rows
+      (model.store Name same shares (length m.rows.units) (by_dim rate) (by_dim ceiling) []) 0
+  left_tied rates =
+      subst (λ (s : goal.Beginning). Tied (length m.rows.units) rate s.head s.rows (model.store Name same shares (length m.rows.units) (by_dim rate) (by_dim ceiling) []) 0) (sym left_is)
+      (opening_tied rate ceiling (length m.counted) m.rows (sized m.rows m.counted start_sizes) rates)

@@ -11,12 +11,13 @@ use lib.Ieee.{Float}
 use Rattle.ieee.specs.Doubles.{one}
 use Rattle.ieee.specs.Units.{power, units}
 use Rattle.flow.specs.Flow.{dims, at}
-use Rattle.flow.specs.declared.Use.{Use}
 use Rattle.verdict.specs.declared.Verdict.{Verdict}
 use Rattle.verdict.specs.declared.Verdict.TheVariants as verdict
 use Rattle.sender.specs.declared.Unit as unit
 use Rattle.sender.specs.Sender as sender
-use Rattle.store.specs.Store as store
+use Rattle.std.specs.Prelude.{Option, Some, None, is_some}
+use Rattle.parts.specs.Parts.{Rows}
+use Rattle.store_entry.proofs.Own.{table_below}
 use Rattle.store.specs.Held.{sizes_of}
 use Rattle.head.specs.declared.Shedder.{Shedder}
 use Rattle.std.proofs.Common.{Result, Ok}
@@ -36,8 +37,7 @@ use Rattle.fair.specs.Calls as calls
 use Rattle.fair.specs.Calls.{State, Call, Judge, Cut, Read, Event, Key, shared, own, Claim}
 use Rattle.fair.proofs.Runs.{shown, Along, sum_along, highest_along, clock_along, back_along, each_along, lowest_along, since_along, back_shown}
 use Rattle.fair.proofs.Store.{store_claim}
-use Rattle.fair.proofs.View as view
-use Rattle.fair.proofs.View.{Name, same, shares, named, name_of, same_is, same_self}
+use Rattle.fair.proofs.View.{Name, same, shares, named, name_of, same_is, same_self, R}
 use Rattle.fair.proofs.Find as finding
 use Rattle.fair.proofs.Entry as entry
 use Rattle.fair.proofs.Tied.{Tied}
@@ -57,8 +57,8 @@ verdict_taken v = refl
 judge_kept : (h : Shedder) (m : Memory) (u : unit.Unit) (cost : List ℕ) (t : ℕ) → calls.refused (calls.state_of h m) (Judge u cost t) ≡ true → calls.state_of (goal.judge h m u cost t).head (goal.judge h m u cost t).memory ≡ calls.state_of h m
 unfolding goal.judge
 judge_kept h m u cost t f =
-    go (goal.judge_asked h (sizes_of m.rows m.counted) cost t)
-    (eqb (goal.judge_asked h (sizes_of m.rows m.counted) cost t) 0)
+    go (goal.judge_asked h (sizes_of m.rows m.counted) m.rows.offsets cost t)
+    (eqb (goal.judge_asked h (sizes_of m.rows m.counted) m.rows.offsets cost t) 0)
     (goal.is_unbounded h.flow.rate) f
   where
     taken : ltb 0 (goal.judge_number (goal.bounded h m u cost t).answer) ≡ false
@@ -89,8 +89,8 @@ cut-kept : (h : Shedder) (m : Memory) (u : unit.Unit) (c : Cause) (cost : List �
 unfolding goal.cut goal.noted goal.answer_number
 cut-kept h m u c cost f =
     cut_chosen h m (goal.cut_after m.counted u c cost (goal.handed_back (goal.kept_by h m.rows) u (goal.numbers cost))) (goal.cut_after m.counted u c cost (goal.kept_by h m.rows)) refl refl
-    (goal.cut_asked h (sizes_of m.rows m.counted) cost)
-    (eqb (goal.cut_asked h (sizes_of m.rows m.counted) cost) 0) (goal.hands_back h.flow.rate c) f
+    (goal.cut_asked h (sizes_of m.rows m.counted) m.rows.offsets cost)
+    (eqb (goal.cut_asked h (sizes_of m.rows m.counted) m.rows.offsets cost) 0) (goal.hands_back h.flow.rate c) f
 
 -- ---- answers and verdicts
 if-same : (v : Verdict) (x : ℕ) → calls.if_admitted (goal.answer_of v) x ≡ cond (is_admitted v) x 0
@@ -121,7 +121,7 @@ module _ (room : ℕ) (rate ceiling : List ℕ) (rates : goal.all_rates rate ≡
   -- a call as the model's: want, reserve, fade, fill and the rows that the scan drops are computed from the state that it got
   abbrev pub see : State → Call → C
   see s (Judge u cost t) = judging.judge_call room rate s.head s.memory u cost t
-  see s (Cut u c cost) = cutting.cut_call room rate s.head c u cost
+  see s (Cut u c cost) = cutting.cut_call room rate s.memory.rows c u cost
   see s (Read q) = model.Other
 
   abbrev pub seen : Event → List Event → C
@@ -137,14 +137,14 @@ module _ (room : ℕ) (rate ceiling : List ℕ) (rates : goal.all_rates rate ≡
   Tie s ms = Tied room rate s.head s.memory.rows (store_of ms) (clock stamp ms)
 
   -- ---- stamps
-  cut_stamp : (h : Shedder) (c : Cause) (u : unit.Unit) (cost : List ℕ) → stamp (cutting.cut_call room rate h c u cost) ≡ 0
-  cut_stamp h cause.ReceiverCeiling u cost = refl
-  cut_stamp h cause.OverShare u cost = refl
-  cut_stamp h cause.RelayRate u cost = refl
+  cut_stamp : (m : Rows) (c : Cause) (u : unit.Unit) (cost : List ℕ) → stamp (cutting.cut_call room rate m c u cost) ≡ 0
+  cut_stamp m cause.ReceiverCeiling u cost = refl
+  cut_stamp m cause.OverShare u cost = refl
+  cut_stamp m cause.RelayRate u cost = refl
 
   stamp_same : (s : State) (c : Call) → calls.stamp_of c ≡ stamp (see s c)
   stamp_same s (Judge u cost t) = refl
-  stamp_same s (Cut u c cost) = sym (cut_stamp s.head c u cost)
+  stamp_same s (Cut u c cost) = sym (cut_stamp s.memory.rows c u cost)
   stamp_same s (Read q) = refl
 
   -- ---- one step
@@ -161,9 +161,9 @@ module _ (room : ℕ) (rate ceiling : List ℕ) (rates : goal.all_rates rate ≡
     step_tied (Judge u cost t) f = judge_step room rate rates s (store_of ms) (clock stamp ms) b u cost t f
     step_tied (Cut u c cost) f =
         let j = goal.cut s.head s.memory.rows s.memory.counted u c cost in
-        subst (λ (k : ℕ). Tied room rate j.head j.rows (model.step Name same shares room (store_of ms) (clock stamp ms) (cutting.cut_call room rate s.head c u cost)) k)
-        (let e : clock stamp ms ≡ max (stamp (cutting.cut_call room rate s.head c u cost)) (clock stamp ms) = omega (arith, cut_stamp s.head c u cost) in e)
-        (subst (λ (k : ℕ). Tied room rate j.head j.rows (model.step Name same shares room (store_of ms) k (cutting.cut_call room rate s.head c u cost)) k) b.clock_is
+        subst (λ (k : ℕ). Tied room rate j.head j.rows (model.step Name same shares room (store_of ms) (clock stamp ms) (cutting.cut_call room rate s.memory.rows c u cost)) k)
+        (let e : clock stamp ms ≡ max (stamp (cutting.cut_call room rate s.memory.rows c u cost)) (clock stamp ms) = omega (arith, cut_stamp s.memory.rows c u cost) in e)
+        (subst (λ (k : ℕ). Tied room rate j.head j.rows (model.step Name same shares room (store_of ms) k (cutting.cut_call room rate s.memory.rows c u cost)) k) b.clock_is
         (cutting.cut_tied room rate rates s.head s.memory (store_of ms) at_clock u c cost f))
     step_tied (Read q) f = idle
 
@@ -261,14 +261,13 @@ module _ (room : ℕ) (rate ceiling : List ℕ) (rates : goal.all_rates rate ≡
   present_same shared s ms b = refl
   present_same (own u) s ms b =
       let m = s.memory.rows in
-      let n = s.head.tracked in
       let w = sender.name_of u in
-      there_is (ltb (store.find m.tags m.units w n) n) (store.use_at m (store.find m.tags m.units w n))
-      ∙ ap demand.there (sym (finding.sought room m w n)) ∙ ap (λ (rs : List (view.R room)). demand.there (model.find Name same shares room (named w) rs)) b.rows_is
+      there_is m (goal.find m w) ∙ ap demand.there (sym (finding.sought room m s.head.tracked b.held.well w (table_below u)))
+      ∙ ap (λ (rs : List (R room)). demand.there (model.find Name same shares room (named w) rs)) b.rows_is
     where
-      there_is : (c : Bool) (x : Use) → c ≡ demand.there (cond c (demand.present x) demand.absent)
-      there_is true x = refl
-      there_is false x = refl
+      there_is : (m : Rows) (o : Option ℕ) → is_some o ≡ demand.there (finding.kept_at m o)
+      there_is m None = refl
+      there_is m (Some i) = refl
 
   -- ---- a refused call leaves the state
   pub refused_kept : (s : State) (c : Call) → calls.refused s c ≡ true → calls.step s c ≡ s
@@ -415,4 +414,4 @@ module _ (room : ℕ) (rate ceiling : List ℕ) (rates : goal.all_rates rate ≡
 
 -- THE THEOREM
 pub demand_three : Claim
-demand_three was m rate ceiling rates e = demanded (length m.rows.units) rate ceiling rates (calls.left was m rate ceiling) (left_tied was m rate ceiling rates e)
+demand_three was m rate ceiling rates e = demanded (length m.rows.units) rate ceiling rates (calls.left was m rate ceiling) (left_tied was m rate ceiling e rates)

@@ -1,7 +1,7 @@
 -- A cut that is not refused: the real state after it is tied to the model's store after the model's cut, or after a call that does nothing. Assumes nothing.
 use mathlib.Core.Path.{◌≡◌, refl, sym, ap, ◌∙◌, subst}
 use Prim.Native.Nat.{ℕ, ◌^◌, ◌≤◌, ◌<◌}
-use native.Mathlib.Nat.{le_refl, le_of_eq, le_trans}
+use native.Mathlib.Nat.{le_refl}
 use native.Mathlib.Omega.{arith}
 use mathlib.Core.Bool.{Bool, true, false, cond}
 use mathlib.Core.List.{List}
@@ -16,7 +16,7 @@ use Rattle.flow.specs.declared.Bucket.{Bucket}
 use Rattle.flow.specs.declared.Use.{Use}
 use Rattle.sender.specs.declared.Unit as unit
 use Rattle.sender.specs.Sender as sender
-use Rattle.store.specs.Store.{Rows}
+use Rattle.parts.specs.Parts.{Rows}
 use Rattle.store.specs.Held.{sizes_of}
 use Rattle.store.specs.declared.lent.Sizes.{Sizes}
 use Rattle.head.proofs.Tests.{zero_yes}
@@ -27,15 +27,14 @@ use Rattle.head.specs.Answers.{refusal_of, refused}
 use Rattle.head.proofs.Numbers.{number_some}
 use Rattle.fair.specs.Given as goal
 use Rattle.fair.specs.Given.{Memory}
-use Rattle.head.proofs.Asked.{cut_ready}
 use Rattle.fair.specs.Store as model
 use Rattle.fair.specs.Demand as demand
 use Rattle.fair.specs.Demand.{present, does, priced}
 use Rattle.fair.specs.Calls as calls
 use Rattle.fair.proofs.View.{Name, same, shares, name_of}
 use Rattle.fair.proofs.Entry as entry
-use Rattle.fair.proofs.Entry.{Held, Placed}
-use Rattle.fair.proofs.Tied.{Tied, Bound}
+use Rattle.fair.proofs.Entry.{Placed}
+use Rattle.fair.proofs.Tied.{Tied}
 use Rattle.fair.proofs.Outcome as outcome
 use Rattle.fair.proofs.Outcome.{costs, numbers_priced}
 use Rattle.fair.proofs.Judging as judging
@@ -65,12 +64,12 @@ module _ (room : ℕ) (rate : List ℕ) where
   after place k t st = judging.after room rate place k t st
 
   -- a ReceiverCeiling cut is the model's cut, any other does nothing to a record
-  abbrev pub cut_call : Shedder → Cause → unit.Unit → List ℕ → C
-  cut_call h cause.ReceiverCeiling u cost = model.Cut (name_of u) (costs cost) (new_place h u)
-  cut_call h cause.OverShare u cost = model.Other
-  cut_call h cause.RelayRate u cost = model.Other
+  abbrev pub cut_call : Rows → Cause → unit.Unit → List ℕ → C
+  cut_call m cause.ReceiverCeiling u cost = model.Cut (name_of u) (costs cost) (new_place m u)
+  cut_call m cause.OverShare u cost = model.Other
+  cut_call m cause.RelayRate u cost = model.Other
 
-  module _ (h : Shedder) (m : Rows) (st : S) (b : Bound room rate h m st h.flow.at_ms) (u : unit.Unit) (cost : List ℕ) where
+  module _ (h : Shedder) (m : Rows) (st : S) (b : Tied room rate h m st h.flow.at_ms) (u : unit.Unit) (cost : List ℕ) where
     abbrev clk : ℕ
     clk = h.flow.at_ms
 
@@ -80,7 +79,7 @@ module _ (room : ℕ) (rate : List ℕ) where
     abbrev k : K
     k = resolve st u
 
-    p : Placed room m h.tracked h.overflow (new_place h u) k st.bucket u clk e
+    p : Placed room m h.tracked h.overflow (new_place m u) k st.bucket u clk e
     p = judging.placed room rate h m st clk b u clk
 
     handed_is : (cst : List Float) → cst ≡ priced (costs cost) → present (flow.handed_back (found_at h e) cst) ≡ (does (seen k st) clk (demand.Cut (costs cost))).used
@@ -88,29 +87,29 @@ module _ (room : ℕ) (rate : List ℕ) where
         ap (λ (c : List Float). present (flow.handed_back (found_at h e) c)) q
         ∙ ap (λ (x : Use). present (flow.handed_back x (priced (costs cost)))) (judging.found-is room rate h m st clk b u clk e p)
 
-    handed_bound_at : (cst : List Float) → cst ≡ priced (costs cost)
-        → Bound room rate (goal.handed_at h cst e).head (goal.handed_at h cst e).rows (after (new_place h u) k (does (seen k st) clk (demand.Cut (costs cost))) st) clk
+    handed_tied_at : (cst : List Float) → cst ≡ priced (costs cost)
+        → Tied room rate (goal.handed_at h cst e).head (goal.handed_at h cst e).rows (after (new_place m u) k (does (seen k st) clk (demand.Cut (costs cost))) st) clk
     unfolding goal.flowed_back
-    handed_bound_at cst q =
-        judging.headed_bound room rate h m st clk b u clk e p (goal.flowed_back h.flow cst) (flow.handed_back (found_at h e) cst) (does (seen k st) clk (demand.Cut (costs cost)))
+    handed_tied_at cst q =
+        judging.headed_tied room rate h m st clk b u clk e p (goal.flowed_back h.flow cst) (flow.handed_back (found_at h e) cst) (does (seen k st) clk (demand.Cut (costs cost)))
         (outcome.handed_whole (found_at h e) cst p.whole)
         (handed_is cst q)
-        b.tied.rate_is
+        b.rate_is
         (le_refl clk)
-        (outcome.returned_long h.flow.buckets cst b.tied.long)
-        (λ d small. ap (λ (c : List Float). bucket_at (flow.returned_all h.flow.buckets c) d) q ∙ outcome.returned_at h.flow.buckets (costs cost) b.tied.long d small
-        ∙ ap (λ (x : Bucket). flow.returned x (whole (costs cost d))) (b.tied.bucket_is d small))
+        (outcome.returned_long h.flow.buckets cst b.long)
+        (λ d small. ap (λ (c : List Float). bucket_at (flow.returned_all h.flow.buckets c) d) q ∙ outcome.returned_at h.flow.buckets (costs cost) b.long d small
+        ∙ ap (λ (x : Bucket). flow.returned x (whole (costs cost d))) (b.bucket_is d small))
 
-    handed_bound : Bound room rate (goal.handed_back (goal.kept_by h m) u (goal.numbers cost)).head (goal.handed_back (goal.kept_by h m) u (goal.numbers cost)).rows (model.step Name same shares room st clk (model.Cut (name_of u) (costs cost) (new_place h u))) clk
+    handed_tied : Tied room rate (goal.handed_back (goal.kept_by h m) u (goal.numbers cost)).head (goal.handed_back (goal.kept_by h m) u (goal.numbers cost)).rows (model.step Name same shares room st clk (model.Cut (name_of u) (costs cost) (new_place m u))) clk
     unfolding goal.handed_back
-    handed_bound = handed_bound_at (goal.numbers cost) (numbers_priced cost)
+    handed_tied = handed_tied_at (goal.numbers cost) (numbers_priced cost)
 
-    on_bound : goal.is_unbounded h.flow.rate ≡ false → (c : Cause)
-        → Bound room rate (cut_on h m u c cost).head (cut_on h m u c cost).rows (model.step Name same shares room st clk (cut_call h c u cost)) clk
+    on_tied : goal.is_unbounded h.flow.rate ≡ false → (c : Cause)
+        → Tied room rate (cut_on h m u c cost).head (cut_on h m u c cost).rows (model.step Name same shares room st clk (cut_call m c u cost)) clk
     unfolding goal.hands_back goal.index_of
-    on_bound f cause.ReceiverCeiling = rw f handed_bound
-    on_bound f cause.OverShare = rw f b
-    on_bound f cause.RelayRate = rw f b
+    on_tied f cause.ReceiverCeiling = rw f handed_tied
+    on_tied f cause.OverShare = rw f b
+    on_tied f cause.RelayRate = rw f b
 
 -- ---- a cut that is not refused
 abbrev cut_no : Shedder → Rows → List (List ℕ) → ℕ → goal.Cut
@@ -125,20 +124,20 @@ chosen h m k n to x y true false q f = (refl, refl)
 chosen h m k n to x y false b q f = absurd (omega (arith, ltb-false 0 _ f, number_some (refusal_of n)))
 
 pub record Taken (h : Shedder) (m : Rows) (k : List (List ℕ)) (u : unit.Unit) (c : Cause) (cost : List ℕ) : Type 0 where
-  pub asked : goal.cut_asked h (sizes_of m k) cost ≡ 0
+  pub asked : goal.cut_asked h (sizes_of m k) m.offsets cost ≡ 0
   pub is : goal.cut h m k u c cost ≡ goal.cut_after k u c cost (cut_on h m u c cost)
 
 pub taken : (h : Shedder) (m : Rows) (k : List (List ℕ)) (u : unit.Unit) (c : Cause) (cost : List ℕ) → ltb 0 (goal.cut_number (goal.cut h m k u c cost).answer) ≡ false → Taken h m k u c cost
 unfolding goal.cut
 taken h m k u c cost f =
-    let n = goal.cut_asked h (sizes_of m k) cost in
+    let n = goal.cut_asked h (sizes_of m k) m.offsets cost in
     let r = chosen h m k n (goal.cut_after k u c cost) (goal.handed_back (goal.kept_by h m) u (goal.numbers cost)) (goal.kept_by h m) (eqb n 0) (goal.hands_back h.flow.rate c) refl f in
     record { asked = eqb-true n 0 r.0; is = r.1 }
 
-pub cut_costs : (h : Shedder) (s : Sizes) (cost : List ℕ) → goal.cut_asked h s cost ≡ 0 → goal.costs_held cost ≡ true
+pub cut_costs : (h : Shedder) (s : Sizes) (os cost : List ℕ) → goal.cut_asked h s os cost ≡ 0 → goal.costs_held cost ≡ true
 unfolding goal.cut_asked
-cut_costs h s cost e =
-    let a = zero_yes (goal.head_whole h) _ 2 e in
+cut_costs h s os cost e =
+    let a = zero_yes (goal.whole_with h os) _ 2 e in
     let b = zero_yes (goal.memory_whole h s) _ 3 a.1 in
     (zero_yes (goal.costs_held cost) _ 4 b.1).0
 
@@ -148,30 +147,19 @@ module _ (room : ℕ) (rate : List ℕ) (rates : goal.all_rates rate ≡ true) (
   pub took : Taken h m.rows m.counted u c cost
   took = taken h m.rows m.counted u c cost f
 
-  cut_held : Held room m.rows h.tracked
-  cut_held =
-      let r = cut_ready h (sizes_of m.rows m.counted) cost took.asked in
-      record { tags = omega (arith, r.tags_room, b.room_is); units = r.units_room ∙ b.room_is; uses = r.uses_room ∙ b.room_is; few = le_trans r.tracked_held (le_of_eq b.room_is); wide = b.wide }
-
-  cut_bound : Bound room rate h m.rows st h.flow.at_ms
-  cut_bound = record { tied = b; held = cut_held }
-
-  pub cut_after : Bound room rate (goal.cut h m.rows m.counted u c cost).head (goal.cut h m.rows m.counted u c cost).rows (model.step Name same shares room st h.flow.at_ms (cut_call room rate h c u cost)) h.flow.at_ms
+  pub cut_tied : Tied room rate (goal.cut h m.rows m.counted u c cost).head (goal.cut h m.rows m.counted u c cost).rows (model.step Name same shares room st h.flow.at_ms (cut_call room rate m.rows c u cost)) h.flow.at_ms
   unfolding goal.noted
-  cut_after =
+  cut_tied =
       let s = cut_on h m.rows u c cost in
-      subst (λ (j : goal.Cut). Bound room rate j.head j.rows (model.step Name same shares room st h.flow.at_ms (cut_call room rate h c u cost)) h.flow.at_ms) (sym took.is)
-      (judging.tallied_bound room rate s.head m.counted (sender.name_of u) (goal.index_of c) (get_or cost 0 0) s.rows _ h.flow.at_ms
-      (on_bound room rate h m.rows st cut_bound u cost (ap goal.is_unbounded b.rate_is ∙ not_unbounded rate rates) c))
-
-  pub cut_tied : Tied room rate (goal.cut h m.rows m.counted u c cost).head (goal.cut h m.rows m.counted u c cost).rows (model.step Name same shares room st h.flow.at_ms (cut_call room rate h c u cost)) h.flow.at_ms
-  cut_tied = cut_after.tied
+      subst (λ (j : goal.Cut). Tied room rate j.head j.rows (model.step Name same shares room st h.flow.at_ms (cut_call room rate m.rows c u cost)) h.flow.at_ms) (sym took.is)
+      (judging.tallied_tied room rate s.head m.counted (sender.name_of u) (goal.index_of c) (get_or cost 0 0) s.rows _ h.flow.at_ms
+      (on_tied room rate h m.rows st b u cost (ap goal.is_unbounded b.rate_is ∙ not_unbounded rate rates) c))
 
   pub cut_small : (d : ℕ) → d < dims → get_or cost d 0 ≤ 2 ^ 40
-  cut_small = small_costs cost (cut_costs h (sizes_of m.rows m.counted) cost took.asked)
+  cut_small = small_costs cost (cut_costs h (sizes_of m.rows m.counted) m.rows.offsets cost took.asked)
 
   -- the record that it uses is the model's
   pub cut_key : judging.resolve room rate st u ≡ entry.lift room (calls.key (calls.state_of h m) u h.flow.at_ms)
   cut_key =
-      (judging.placed room rate h m.rows st h.flow.at_ms cut_bound u h.flow.at_ms).key
+      (judging.placed room rate h m.rows st h.flow.at_ms b u h.flow.at_ms).key
       ∙ ap (λ (r : ℕ). entry.lift room (calls.key_at (ltb (goal.entry m.rows h.tracked h.unit_room u h.flow.at_ms).place.at r) u)) (sym b.room_is)

@@ -1,139 +1,80 @@
--- Finding a unit's record in the lent rows is the model's finding, and putting its use back is the model's put, whatever the place. Assumes nothing.
-use mathlib.Core.Path.{◌≡◌, refl, sym, ap, ◌∙◌}
-use Prim.Native.Nat.{ℕ, zero, suc, ◌≤◌, ◌<◌}
+-- The search of the part of a unit's table is the model's finding. Assumes nothing.
+use mathlib.Core.Path.{◌≡◌, refl, sym, ap, subst, ◌∙◌}
+use mathlib.Core.Bool.{Bool, true, false}
+use Prim.Native.Nat.{ℕ, ◌<◌}
 use native.Mathlib.Omega.{arith}
-use mathlib.Core.Bool.{Bool, true, false, cond}
-use mathlib.Core.List.{List, [], ◌∷◌, ◌++◌}
-use lib.Dec.{ltb}
-use lib.ListN.{length}
-use borrow.Author.Tests.{ltb-true, lt-ltb, le-ltb}
-use Rattle.flow.specs.declared.Use.{Use}
+use lib.ListN.{get_or}
+use Rattle.std.specs.Prelude.{Option, Some, None}
 use Rattle.sender.specs.declared.Name as sender_name
-use Rattle.store.specs.Store as store
-use Rattle.store.specs.Store.{Rows, words_at, use_at, is_at, first, find}
+use Rattle.sender.specs.Sender.{table_of_tag}
+use Rattle.store.specs.Store.{words_at, has_tag, first}
+use Rattle.store.specs.Found.{found}
+use Rattle.store.proofs.Found as option
+use Rattle.store.proofs.Steps.{first_holds, first_least}
+use Rattle.shifting.specs.Offsets.{«PARTS»}
+use Rattle.parts.specs.Parts.{Rows, is_at, find, use_of}
+use Rattle.parts.specs.Laws.{Well}
+use Rattle.parts.proofs.Searching.{searches}
 use Rattle.fair.specs.Store as model
-use Rattle.fair.specs.Demand.{Kept, absent, present, there}
-use Rattle.fair.proofs.View as view
-use Rattle.fair.proofs.View.{Name, same, shares, named, same_is, same_self}
-use Rattle.fair.proofs.Rows.{put_there}
-use Rattle.fair.proofs.Sweep as pass
-use Rattle.fair.proofs.Sweep.{Wide}
-use Rattle.fair.proofs.Back as back
-use Rattle.fair.proofs.Back.{Whole}
+use Rattle.fair.specs.Demand.{Kept, absent, present}
+use Rattle.fair.proofs.View.{Name, same, shares, named, R, record_at, listed, listed_length, listed_at, no_row}
+use Rattle.fair.proofs.Found.{found_at, found_none}
 
-module _ (room : ℕ) where
-  abbrev R' : Type 0
-  R' = view.R room
+-- the use of a record that a search found
+abbrev pub kept_at : Rows → Option ℕ → Kept
+kept_at m None = absent
+kept_at m (Some i) = present (use_of m i)
 
-  abbrev record_at : Rows → ℕ → R'
-  record_at m i = view.record_at room m i
+module _ (room : ℕ) (m : Rows) (n : ℕ) (h : Well m n) (w : sender_name.Name) (t : table_of_tag w.tag < «PARTS») where
+  abbrev f : ℕ
+  f = first (is_at m w) n
 
-  abbrev listed : Rows → ℕ → List R'
-  listed m n = view.listed room m n
+  abbrev row : ℕ → R room
+  row j = get_or (listed room m n) j (no_row room)
 
-  abbrev seek : Name → List R' → Kept
-  seek u rs = model.find Name same shares room u rs
+  -- the test of the search is that of the names
+  at_is : (j : ℕ) → is_at m w j ≡ same (named w) (record_at room m j).name
+  unfolding is_at has_tag record_at words_at
+  at_is j = refl
 
-  abbrev replaced : Name → Use → List R' → List R'
-  replaced u x rs = model.replaced Name same shares room u x rs
+  used_is : (j : ℕ) → (record_at room m j).used ≡ use_of m j
+  unfolding record_at
+  used_is j = refl
 
-  abbrev put : ℕ → Name → Use → List R' → List R'
-  put place u x rs = model.put Name same shares room place u x rs
+  row_is : (j : ℕ) (b : Bool) → j < n → is_at m w j ≡ b → same (named w) (row j).name ≡ b
+  row_is j b l e = ap (λ (r : R room). same (named w) r.name) (listed_at room m n j l) ∙ sym (at_is j) ∙ e
 
-  -- ---- at the end of a list
-  seek_end : (u : Name) (xs : List R') (r : R') → seek u (xs ++ (r ∷ [])) ≡ cond (there (seek u xs)) (seek u xs) (seek u (r ∷ []))
-  seek_end u [] r = refl
-  seek_end u (x ∷ xs) r = go (seek_end u xs r) (same u x.name)
+  -- the first of all
+  everywhere : find m w ≡ found n f
+  everywhere = (searches m n w h.sound.whole t).everywhere h.homed
+
+  -- what is found is live; no row before it has the name
+  pub record Finds (i : ℕ) : Type 0 where
+    pub low : i < n
+    pub before : (j : ℕ) → j < i → same (named w) (row j).name ≡ false
+    pub there : same (named w) (row i).name ≡ true
+
+  pub finds : (i : ℕ) → find m w ≡ Some i → Finds i
+  finds i e =
+      let q = option.found_some n f i (sym everywhere ∙ e) in
+      let z = q.0 in
+      let l = q.1 in
+      record {
+        low = omega arith;
+        before = λ j k. row_is j false (omega arith) (first_least (is_at m w) n j (omega arith));
+        there = subst (λ (j : ℕ). same (named w) (row j).name ≡ true) z (row_is f true l (first_holds (is_at m w) n l));
+      }
+
+  -- THE FIND: the model's
+  pub sought : model.find Name same shares room (named w) (listed room m n) ≡ kept_at m (find m w)
+  sought = by (find m w) refl
     where
-      go : seek u (xs ++ (r ∷ [])) ≡ cond (there (seek u xs)) (seek u xs) (seek u (r ∷ [])) → (b : Bool)
-          → cond b (present x.used) (seek u (xs ++ (r ∷ []))) ≡ cond (there (cond b (present x.used) (seek u xs))) (cond b (present x.used) (seek u xs)) (seek u (r ∷ []))
-      go i true = refl
-      go i false = i
-
-  replaced_end : (u : Name) (v : Use) (xs : List R') (r : R') → replaced u v (xs ++ (r ∷ [])) ≡ cond (there (seek u xs)) (replaced u v xs ++ (r ∷ [])) (xs ++ replaced u v (r ∷ []))
-  replaced_end u v [] r = refl
-  replaced_end u v (x ∷ xs) r = go (replaced_end u v xs r) (same u x.name)
-    where
-      under : (c : Bool) (l k : List R') → x ∷ cond c l k ≡ cond c (x ∷ l) (x ∷ k)
-      under true l k = refl
-      under false l k = refl
-
-      go : replaced u v (xs ++ (r ∷ [])) ≡ cond (there (seek u xs)) (replaced u v xs ++ (r ∷ [])) (xs ++ replaced u v (r ∷ [])) → (b : Bool)
-          → cond b (record { name = x.name; used = v } ∷ (xs ++ (r ∷ []))) (x ∷ replaced u v (xs ++ (r ∷ [])))
-          ≡ cond (there (cond b (present x.used) (seek u xs))) (cond b (record { name = x.name; used = v } ∷ xs) (x ∷ replaced u v xs) ++ (r ∷ [])) (x ∷ (xs ++ replaced u v (r ∷ [])))
-      go i true = refl
-      go i false = ap (λ (l : List R'). x ∷ l) i ∙ under (there (seek u xs)) (replaced u v xs ++ (r ∷ [])) (xs ++ replaced u v (r ∷ []))
-
-  module _ (m : Rows) (w : sender_name.Name) where
-    abbrev F : ℕ → ℕ
-    F n = first (is_at m.tags m.units w) n
-
-    -- the test of the search is that of the names
-    at-is : (j : ℕ) → is_at m.tags m.units w j ≡ same (named w) (record_at m j).name
-    unfolding is_at view.record_at words_at
-    at-is j = refl
-
-    used_is : (j : ℕ) → (record_at m j).used ≡ use_at m j
-    unfolding view.record_at
-    used_is j = refl
-
-    -- ---- what is found
-    seek_listed : (n : ℕ) → seek (named w) (listed m n) ≡ cond (ltb (F n) n) (present (use_at m (F n))) absent
-    unfolding first view.listed
-    seek_listed zero = refl
-    seek_listed (suc n) = seek_end (named w) (listed m n) (record_at m n) ∙ go (F n) (ltb (F n) n) refl (is_at m.tags m.units w n) refl (seek_listed n)
-      where
-        last : (b : Bool) → is_at m.tags m.units w n ≡ b → seek (named w) (record_at m n ∷ []) ≡ cond b (present (use_at m n)) absent
-        last b e = ap (λ (c : Bool). cond c (present (record_at m n).used) absent) (sym (at-is n) ∙ e) ∙ ap (λ (x : Use). cond b (present x) absent) (used_is n)
-
-        go : (f : ℕ) (b : Bool) → ltb f n ≡ b → (c : Bool) → is_at m.tags m.units w n ≡ c → seek (named w) (listed m n) ≡ cond b (present (use_at m f)) absent
-            → cond (there (seek (named w) (listed m n))) (seek (named w) (listed m n)) (seek (named w) (record_at m n ∷ []))
-            ≡ cond (ltb (cond b f (cond c n (suc n))) (suc n)) (present (use_at m (cond b f (cond c n (suc n))))) absent
-        go f true e c g i = let l : f < suc n = omega (arith, ltb-true f n e) in rw (i, lt-ltb f (suc n) l)
-        go f false e true g i = let l : n < suc n = omega arith in rw (i, lt-ltb n (suc n) l) (last true g)
-        go f false e false g i = rw (i, le-ltb (suc n) (suc n) (omega arith)) (last false g)
-
-    pub sought : (n : ℕ) → seek (named w) (listed m n) ≡ cond (ltb (find m.tags m.units w n) n) (present (use_at m (find m.tags m.units w n))) absent
-    unfolding find
-    sought n = seek_listed n
-
-    -- ---- putting a use back where it was found
-    module _ (x : Use) (whole : Whole x) where
-      abbrev putted : ℕ → Rows
-      putted i = store.put m i x
-
-      module _ (big : ℕ) (hi : big ≤ length m.tags) (hu : big ≤ length m.units) (hs : big ≤ length m.uses) (wide : Wide 7 m big) where
-        elsewhere : (i : ℕ) → i < big → (j : ℕ) → (j ≡ i → ⊥) → record_at (putted i) j ≡ record_at m j
-        unfolding Wide
-        elsewhere i h j q = back.put_elsewhere room m i x whole (omega arith) (omega arith) (omega arith) (wide i h) j q
-
-        pub in_place : (i : ℕ) → i < big → record_at (putted i) i ≡ record { name = (record_at m i).name; used = x }
-        unfolding Wide view.record_at
-        in_place i h = back.put_there room m i x whole (omega arith) (omega arith) (omega arith) (wide i h)
-
-        pub before : (i : ℕ) → i < big → (n : ℕ) → n ≤ i → listed (putted i) n ≡ listed m n
-        before i h n l = pass.listed_same room (putted i) m n (λ j k. elsewhere i h j (λ q. absurd (omega arith)))
-
-        replaced_listed : (n : ℕ) → n ≤ big → F n < n → replaced (named w) x (listed m n) ≡ listed (putted (F n)) n
-        unfolding first view.listed
-        replaced_listed zero l h = absurd (omega arith)
-        replaced_listed (suc n) l h = replaced_end (named w) x (listed m n) (record_at m n) ∙ go (F n) refl (ltb (F n) n) refl (is_at m.tags m.units w n) refl (replaced_listed n (omega arith)) h
-          where
-            go : (f : ℕ) → F n ≡ f → (b : Bool) → ltb f n ≡ b → (c : Bool) → is_at m.tags m.units w n ≡ c → (f < n → replaced (named w) x (listed m n) ≡ listed (putted f) n)
-                → cond b f (cond c n (suc n)) < suc n
-                → cond (there (seek (named w) (listed m n))) (replaced (named w) x (listed m n) ++ (record_at m n ∷ [])) (listed m n ++ replaced (named w) x (record_at m n ∷ []))
-                ≡ listed (putted (cond b f (cond c n (suc n)))) n ++ (record_at (putted (cond b f (cond c n (suc n)))) n ∷ [])
-            go f a true e c g i h =
-                let k : f < n = ltb-true f n e in
-                let s : there (seek (named w) (listed m n)) ≡ true = ap there (seek_listed n ∙ ap (λ (y : ℕ). cond (ltb y n) (present (use_at m y)) absent) a ∙ ap (λ (y : Bool). cond y (present (use_at m f)) absent) e) in
-                rw (s, i k, elsewhere f (omega arith) n (λ q. absurd (omega arith)))
-            go f a false e true g i h =
-                let s : there (seek (named w) (listed m n)) ≡ false = ap there (seek_listed n ∙ ap (λ (y : ℕ). cond (ltb y n) (present (use_at m y)) absent) a ∙ ap (λ (y : Bool). cond y (present (use_at m f)) absent) e) in
-                rw (s, sym (at-is n) ∙ g, before n (omega arith) n (omega arith), in_place n (omega arith))
-            go f a false e false g i h = absurd (omega arith)
-
-        pub put_found : (place n : ℕ) → n ≤ big → find m.tags m.units w n < n → put place (named w) x (listed m n) ≡ listed (putted (find m.tags m.units w n)) n
-        unfolding find
-        put_found place n l h =
-            let s : there (seek (named w) (listed m n)) ≡ true = ap there (seek_listed n ∙ ap (λ (b : Bool). cond b (present (use_at m (F n))) absent) (lt-ltb (F n) n h)) in
-            put_there Name same shares room same_is same_self place (named w) x (listed m n) s ∙ replaced_listed n l h
+      by : (o : Option ℕ) → find m w ≡ o → model.find Name same shares room (named w) (listed room m n) ≡ kept_at m o
+      by None e = found_none Name same shares room (named w) (no_row room) (listed room m n) (λ j k.
+          let g = option.found_none n f (sym everywhere ∙ e) in
+          let l : j < n = omega (arith, listed_length room m n) in
+          row_is j false l (first_least (is_at m w) n j (omega arith)))
+      by (Some i) e =
+          let g = finds i e in
+          found_at Name same shares room (named w) (no_row room) (listed room m n) i (omega (arith, listed_length room m n, g.low)) g.before g.there
+          ∙ ap present (ap (λ (r : R room). r.used) (listed_at room m n i g.low) ∙ used_is i)

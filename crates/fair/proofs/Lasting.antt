@@ -3,26 +3,22 @@ use mathlib.Core.Path.{◌≡◌, refl, sym, ap, ◌∙◌, subst}
 use Prim.Native.Nat.{ℕ, ◌+◌, ◌≤◌, ◌<◌, max}
 use native.Mathlib.Nat.{le_refl}
 use native.Mathlib.Omega.{arith}
-use mathlib.Core.Bool.{Bool, true, false, cond, ◌&&◌, ◌||◌}
+use mathlib.Core.Bool.{Bool, true, false, cond, ◌||◌}
 use mathlib.Core.List.{List, [], ◌∷◌}
-use lib.Dec.{eqb, ltb}
+use lib.Dec.{ltb}
 use lib.ListN.{length}
-use borrow.Author.Tests.{ltb-false, lt-ltb, le-ltb, le-leb, eq-eqb, ne_eqb, eqb-true}
+use borrow.Author.Tests.{lt-ltb, le-ltb, le-leb, eq-eqb, ne_eqb}
 use Rattle.sender.specs.declared.Unit as unit
 use Rattle.store.specs.Held.{sizes_of}
+use Rattle.parts.specs.Parts.{Rows, started}
+use Rattle.head.proofs.Asked.{with_is}
 use Rattle.store.specs.declared.lent.Sizes.{Sizes}
-use Rattle.wants.specs.Wants as wants
 use Rattle.head.specs.declared.Shedder.{Shedder}
-use Rattle.std.proofs.lemmas.Bool.{and_parts}
-use Rattle.head.proofs.Tests.{zero_yes, no_yes}
 use Rattle.store.specs.declared.Cause.{Cause}
-use Rattle.std.proofs.Common.{Ok}
-use Rattle.head.specs.Answers.{refused as refused_by}
 use Rattle.fair.specs.Given as goal
 use Rattle.fair.specs.Given.{Memory, memory}
 use Rattle.fair.specs.Calls as calls
 use Rattle.fair.specs.Calls.{State, Call, Judge, Cut, Read, Lasts, Lasting}
-use Rattle.fair.proofs.Entry.{Held}
 use Rattle.fair.proofs.Tied.{Tied}
 use Rattle.fair.proofs.Spans.{bounded_span, after_span, on_span}
 use Rattle.fair.proofs.Steady as steady
@@ -30,6 +26,7 @@ use Rattle.fair.proofs.Steady.{Tables, running, none, Fine}
 use Rattle.fair.proofs.Judging as judging
 use Rattle.fair.proofs.Cutting as cutting
 use Rattle.fair.proofs.Begun as begun
+use Rattle.fair.proofs.Begun.{Rooms}
 use Rattle.fair.proofs.Calls as real
 
 -- ---- the questions, from what they ask
@@ -38,25 +35,9 @@ unfolding goal.tables_whole
 tables_yes r n (running e) = rw (le-leb r 64 (omega arith), le-leb n 64 (omega arith), eq-eqb (r + n) 64 e)
 tables_yes r n (none e f) = rw (le-leb r 64 (omega arith), le-leb n 64 (omega arith), ne_eqb (r + n) 64 (λ q. omega arith), eq-eqb (r + n) 0 (omega arith))
 
--- so many unit records and counted records
-pub record Rooms (u c : ℕ) : Type 0 where
-  pub some : 1 ≤ u
-  pub most : u ≤ 131072
-  pub two : 2 ≤ c
-  pub counted : c ≤ 4097
-
 rooms_yes : (u c t k : ℕ) → Rooms u c → t ≤ u → k < c → goal.rooms_whole u c t k ≡ true
 unfolding goal.rooms_whole
 rooms_yes u c t k r p q = rw (le-ltb u 1 r.some, le-ltb 131072 u r.most, le-ltb c 2 r.two, le-ltb 4097 c r.counted, le-ltb u t p, lt-ltb k c q)
-
-rooms_of : (u c t k : ℕ) → goal.rooms_whole u c t k ≡ true → Rooms u c
-unfolding goal.rooms_whole
-rooms_of u c t k e =
-    let a = no_yes (ltb u 1) _ e in
-    let b = no_yes (ltb 131072 u) _ a.1 in
-    let d = no_yes (ltb c 2) _ b.1 in
-    let f = no_yes (ltb 4097 c) _ d.1 in
-    record { some = ltb-false u 1 a.0; most = ltb-false 131072 u b.0; two = ltb-false c 2 d.0; counted = ltb-false 4097 c f.0 }
 
 stamps_yes : (a b c d : ℕ) → a < 9007199254740992 → b < 9007199254740992 → c < 9007199254740992 → d < 9007199254740992 → goal.stamps_whole a b c d ≡ true
 unfolding goal.stamps_whole goal.is_stamp
@@ -78,20 +59,22 @@ head_yes h rate room size e rates f r p low fine =
     rooms_yes h.unit_room h.counted_room h.tracked h.counted (subst (λ (n : ℕ). Rooms n h.counted_room) (sym f) (subst (Rooms room) (sym fine.room) r)) (omega arith) (omega (arith, fine.room, fine.few)) in
     rw (a, s, t, q, or_right (goal.is_unbounded h.flow.rate))
 
-memory_yes : (h : Shedder) (s : Sizes) → s.tags ≡ s.units + s.counted → s.units ≡ h.unit_room → s.uses ≡ h.unit_room → s.counted ≡ h.counted_room → goal.memory_whole h s ≡ true
-unfolding goal.memory_whole goal.tags_whole
-memory_yes h s a b c d = rw (eq-eqb s.tags (s.units + s.counted) a, eq-eqb s.units h.unit_room b, eq-eqb s.uses h.unit_room c, eq-eqb s.counted h.counted_room d)
+memory_yes : (h : Shedder) (s : Sizes) → s.tags ≡ s.units + s.counted → s.slots ≡ s.units → s.free ≡ s.units → s.uses ≡ s.units → s.units ≡ h.unit_room → s.counted ≡ h.counted_room
+    → goal.memory_whole h s ≡ true
+unfolding goal.memory_whole goal.tags_whole goal.slots_whole
+memory_yes h s a b c d e f =
+    rw (eq-eqb s.tags (s.units + s.counted) a, eq-eqb s.slots s.units b, eq-eqb s.free s.units c, eq-eqb s.uses s.units d, eq-eqb s.units h.unit_room e, eq-eqb s.counted h.counted_room f)
 
 -- ---- calls that pass the questions are not refused
-judge_asked_yes : (h : Shedder) (s : Sizes) (cost : List ℕ) (t : ℕ) → goal.head_whole h ≡ true → goal.memory_whole h s ≡ true → goal.costs_held cost ≡ true → goal.is_stamp t ≡ true → goal.judge_asked h s cost t ≡ 0
+judge_asked_yes : (h : Shedder) (s : Sizes) (os cost : List ℕ) (t : ℕ) → goal.whole_with h os ≡ true → goal.memory_whole h s ≡ true → goal.costs_held cost ≡ true → goal.is_stamp t ≡ true → goal.judge_asked h s os cost t ≡ 0
 unfolding goal.judge_asked
-judge_asked_yes h s cost t a b c d = rw (a, b, c, d)
+judge_asked_yes h s os cost t a b c d = rw (a, b, c, d)
 
-cut_asked_yes : (h : Shedder) (s : Sizes) (cost : List ℕ) → goal.head_whole h ≡ true → goal.memory_whole h s ≡ true → goal.costs_held cost ≡ true → goal.cut_asked h s cost ≡ 0
+cut_asked_yes : (h : Shedder) (s : Sizes) (os cost : List ℕ) → goal.whole_with h os ≡ true → goal.memory_whole h s ≡ true → goal.costs_held cost ≡ true → goal.cut_asked h s os cost ≡ 0
 unfolding goal.cut_asked
-cut_asked_yes h s cost a b c = rw (a, b, c)
+cut_asked_yes h s os cost a b c = rw (a, b, c)
 
-judge_open : (h : Shedder) (m : Memory) (u : unit.Unit) (cost : List ℕ) (t : ℕ) → goal.judge_asked h (sizes_of m.rows m.counted) cost t ≡ 0 → goal.is_unbounded h.flow.rate ≡ false
+judge_open : (h : Shedder) (m : Memory) (u : unit.Unit) (cost : List ℕ) (t : ℕ) → goal.judge_asked h (sizes_of m.rows m.counted) m.rows.offsets cost t ≡ 0 → goal.is_unbounded h.flow.rate ≡ false
     → goal.judge h m u cost t ≡ goal.bounded h m u cost t
 unfolding goal.judge
 judge_open h m u cost t e f = rw (e, f)
@@ -104,7 +87,7 @@ cut_picked : (b : Bool) (x y : goal.Cut) → ltb 0 (goal.cut_number x.answer) �
 cut_picked true x y p q = p
 cut_picked false x y p q = q
 
-cut_open : (h : Shedder) (m : Memory) (u : unit.Unit) (c : Cause) (cost : List ℕ) → goal.cut_asked h (sizes_of m.rows m.counted) cost ≡ 0 → calls.refused (calls.state_of h m) (Cut u c cost) ≡ false
+cut_open : (h : Shedder) (m : Memory) (u : unit.Unit) (c : Cause) (cost : List ℕ) → goal.cut_asked h (sizes_of m.rows m.counted) m.rows.offsets cost ≡ 0 → calls.refused (calls.state_of h m) (Cut u c cost) ≡ false
 unfolding goal.cut goal.noted goal.answer_number
 cut_open h m u c cost e = rw e
     (cut_picked (goal.hands_back h.flow.rate c) (goal.cut_after m.counted u c cost (goal.handed_back (goal.kept_by h m.rows) u (goal.numbers cost))) (goal.cut_after m.counted u c cost (goal.kept_by h m.rows)) refl refl)
@@ -112,7 +95,6 @@ cut_open h m u c cost e = rw e
 -- ---- every list
 module _ (room size : ℕ) (rate ceiling : List ℕ) (rates : goal.all_rates rate ≡ true) (rooms : Rooms room size) where
   pub record Steady (s : State) : Type 0 where
-    pub held : Held room s.memory.rows s.head.tracked
     pub span : length s.memory.rows.tags ≡ room + size
     pub lasts : steady.Lasts size s.head s.memory.counted s.head.flow.at_ms
     pub low : s.head.flow.at_ms < 9007199254740992
@@ -129,11 +111,10 @@ module _ (room size : ℕ) (rate ceiling : List ℕ) (rates : goal.all_rates rat
       let h = s.head in
       let m = s.memory in
       let tied = real.at_clock room rate ceiling rates s ms b in
-      let a = judging.judge_after room rate rates h m (real.store_of room rate ceiling rates ms) tied u cost t f in
-      let e : (goal.judge h m u cost t).head.flow.at_ms ≡ max t h.flow.at_ms = a.tied.clock_is in
+      let a = judging.judge_tied room rate rates h m (real.store_of room rate ceiling rates ms) tied u cost t f in
+      let e : (goal.judge h m u cost t).head.flow.at_ms ≡ max t h.flow.at_ms = a.clock_is in
       record {
-        held = a.held;
-        span = ap (λ (j : goal.Judged). length j.memory.rows.tags) (judging.took room rate rates h m (real.store_of room rate ceiling rates ms) tied u cost t f).is ∙ bounded_span h m u cost t ∙ k.span;
+        span = ap (λ (j : goal.Judged). length j.memory.rows.tags) (judging.took room rate rates h m (real.store_of room rate ceiling rates ms) tied u cost t f).is ∙ bounded_span room rate h m (real.store_of room rate ceiling rates ms) tied u cost t ∙ k.span;
         lasts = subst (λ (n : ℕ). steady.Lasts size (goal.judge h m u cost t).head (goal.judge h m u cost t).memory.counted n) (sym e)
             (subst (λ (j : goal.Judged). steady.Lasts size j.head j.memory.counted (max t h.flow.at_ms)) (sym (judging.took room rate rates h m (real.store_of room rate ceiling rates ms) tied u cost t f).is) (steady.bounded_lasts size h m u cost t k.lasts));
         low = omega (arith, judging.judge_stamp room rate rates h m (real.store_of room rate ceiling rates ms) tied u cost t f, k.low);
@@ -143,12 +124,11 @@ module _ (room size : ℕ) (rate ceiling : List ℕ) (rates : goal.all_rates rat
       let m = s.memory in
       let tied = real.at_clock room rate ceiling rates s ms b in
       let j = goal.cut h m.rows m.counted u c cost in
-      let a = cutting.cut_after room rate rates h m (real.store_of room rate ceiling rates ms) tied u c cost f in
-      let e : j.head.flow.at_ms ≡ h.flow.at_ms = a.tied.clock_is in
+      let a = cutting.cut_tied room rate rates h m (real.store_of room rate ceiling rates ms) tied u c cost f in
+      let e : j.head.flow.at_ms ≡ h.flow.at_ms = a.clock_is in
       record {
-        held = a.held;
         span = ap (λ (j : goal.Cut). length j.rows.tags) (cutting.took room rate rates h m (real.store_of room rate ceiling rates ms) tied u c cost f).is
-            ∙ after_span (cutting.cut_on h m.rows u c cost) m.counted u c cost ∙ on_span (goal.hands_back h.flow.rate c) h m.rows u (goal.numbers cost) ∙ k.span;
+            ∙ after_span (cutting.cut_on h m.rows u c cost) m.counted u c cost ∙ on_span room rate h m.rows (real.store_of room rate ceiling rates ms) h.flow.at_ms tied u (goal.numbers cost) (goal.hands_back h.flow.rate c) ∙ k.span;
         lasts = subst (λ (n : ℕ). steady.Lasts size j.head j.counted n) (sym e)
             (subst (λ (j : goal.Cut). steady.Lasts size j.head j.counted h.flow.at_ms) (sym (cutting.took room rate rates h m (real.store_of room rate ceiling rates ms) tied u c cost f).is)
             (steady.noted_lasts size (cutting.cut_on h m.rows u c cost).head (cutting.cut_on h m.rows u c cost).rows.tags m.counted u c cost h.flow.at_ms (on_lasts h m u c cost k.lasts)));
@@ -166,56 +146,34 @@ module _ (room size : ℕ) (rate ceiling : List ℕ) (rates : goal.all_rates rat
         go k true f = subst Steady (sym (real.refused_kept room rate ceiling rates (calls.state first h) c f)) k
         go k false f = step_steady (calls.state first h) _ (real.whole room rate ceiling rates first b h).tie c f k
 
-    head_lasts : (h : List Call) → goal.head_whole (calls.state first h).head ≡ true
+    head_lasts : (h : List Call) → goal.whole_with (calls.state first h).head (calls.state first h).memory.rows.offsets ≡ true
     head_lasts h =
         let t = (real.whole room rate ceiling rates first b h).tie in
         let s = all_steady h in
-        head_yes (calls.state first h).head rate room size t.rate_is rates t.room_is rooms s.held.few s.low s.lasts.fine
+        let w = t.held.well.sound in
+        with_is (calls.state first h).head (calls.state first h).memory.rows.offsets
+        (head_yes (calls.state first h).head rate room size t.rate_is rates t.room_is rooms (omega (arith, w.room, t.held.room_is)) s.low s.lasts.fine) w.whole
 
     memory_lasts : (h : List Call)
         → goal.memory_whole (calls.state first h).head (sizes_of (calls.state first h).memory.rows (calls.state first h).memory.counted) ≡ true
     memory_lasts h =
         let t = (real.whole room rate ceiling rates first b h).tie in
         let s = all_steady h in
-        memory_yes (calls.state first h).head _ (omega (arith, s.span, s.held.units, s.lasts.long)) (s.held.units ∙ sym t.room_is) (s.held.uses ∙ sym t.room_is) (s.lasts.long ∙ sym s.lasts.fine.room)
+        let z = t.held.well.sound.sized in
+        memory_yes (calls.state first h).head _ (omega (arith, s.span, t.held.room_is, s.lasts.long)) z.slots z.free z.uses (t.held.room_is ∙ sym t.room_is) (s.lasts.long ∙ sym s.lasts.fine.room)
 
     pub lasting : Lasting first
     lasting = record {
       judge = λ h u cost t c d.
           let s = calls.state first h in
           let unb = ap goal.is_unbounded (real.whole room rate ceiling rates first b h).tie.rate_is ∙ judging.not_unbounded rate rates in
-          ap (λ (j : goal.Judged). ltb 0 (goal.judge_number j.answer)) (judge_open s.head s.memory u cost t (judge_asked_yes s.head _ cost t (head_lasts h) (memory_lasts h) c d) unb) ∙ bounded_taken s.head s.memory u cost t;
-      cut = λ h u c cost d. let s = calls.state first h in cut_open s.head s.memory u c cost (cut_asked_yes s.head _ cost (head_lasts h) (memory_lasts h) d);
+          ap (λ (j : goal.Judged). ltb 0 (goal.judge_number j.answer)) (judge_open s.head s.memory u cost t (judge_asked_yes s.head _ s.memory.rows.offsets cost t (head_lasts h) (memory_lasts h) c d) unb) ∙ bounded_taken s.head s.memory u cost t;
+      cut = λ h u c cost d. let s = calls.state first h in cut_open s.head s.memory u c cost (cut_asked_yes s.head _ s.memory.rows.offsets cost (head_lasts h) (memory_lasts h) d);
       head = head_lasts;
       memory = memory_lasts;
     }
 
 -- ---- from a start
--- what question 2 shows
-pub record SizesWhole (s : Sizes) : Type 0 where
-  pub tags : s.tags ≡ s.units + s.counted
-  pub uses : s.uses ≡ s.units
-  pub rooms : Rooms s.units s.counted
-
-asked_sizes : (rate : List ℕ) (s : Sizes) → goal.start_asked rate s ≡ 0 → SizesWhole s
-unfolding goal.start_asked goal.sizes_whole goal.tags_whole
-asked_sizes rate s e =
-    let a = zero_yes (goal.is_unbounded rate || goal.all_rates rate) _ 0 e in
-    let b = zero_yes (eqb s.tags (s.units + s.counted) && (eqb s.uses s.units && goal.rooms_whole s.units s.counted 0 0)) 0 1 a.1 in
-    let c = and_parts (eqb s.tags (s.units + s.counted)) _ b.0 in
-    let d = and_parts (eqb s.uses s.units) _ c.1 in
-    record { tags = eqb-true s.tags (s.units + s.counted) c.0; uses = eqb-true s.uses s.units d.0; rooms = rooms_of s.units s.counted 0 0 d.1 }
-
-started_asked : (n : ℕ) (h o : Shedder) (g k : wants.Hist) (a : Bool) → (cond a (goal.start_ends (Ok tt) o k) (goal.start_ends (refused_by n) h g)).answer ≡ Ok tt → a ≡ true
-started_asked n h o g k true e = refl
-started_asked n h o g k false e = absurd (let z : ◌≡◌ {A = ℕ} 0 1 = cc in omega arith)
-
-start_sizes : (was : Shedder) (m : Memory) (rate ceiling : List ℕ) → (calls.starts was m rate ceiling).answer ≡ Ok tt → SizesWhole (sizes_of m.rows m.counted)
-unfolding goal.start
-start_sizes was m rate ceiling e =
-    let n = goal.start_asked rate (sizes_of m.rows m.counted) in
-    asked_sizes rate _ (eqb-true n 0 (started_asked n was (goal.opening rate ceiling (length m.rows.units) (length m.counted)) m.hist wants.cleared (eqb n 0) e))
-
 opening_lasts : (rate ceiling : List ℕ) (room : ℕ) (k : List (List ℕ)) → 2 ≤ length k → steady.Lasts (length k) (goal.opening rate ceiling room (length k)) k 0
 unfolding goal.opening
 opening_lasts rate ceiling room k l = record { fine = record { clock = refl; at = le_refl 0; began = le_refl 0; read = le_refl 0; tables = none refl refl; room = refl; few = omega arith }; long = refl }
@@ -224,21 +182,20 @@ opening_from : (rate ceiling : List ℕ) (room : ℕ) (k : List (List ℕ)) → 
 unfolding goal.opening
 opening_from rate ceiling room k l = opening_lasts rate ceiling room k l
 
-opening_few : (rate ceiling : List ℕ) (room size : ℕ) → (goal.opening rate ceiling room size).tracked ≤ room
-unfolding goal.opening
-opening_few rate ceiling room size = let x : 0 ≤ room = omega arith in x
+started_tags : (m : Rows) → length (started m).tags ≡ length m.tags
+unfolding started
+started_tags m = refl
 
 -- THE THEOREM
 pub it_lasts : Lasts
 it_lasts was m rate ceiling rates e =
-    let z = start_sizes was m rate ceiling e in
+    let z = begun.start_sizes was m rate ceiling e in
     let room = length m.rows.units in
     let size = length m.counted in
-    let t = begun.left_tied was m rate ceiling rates e in
+    let t = begun.left_tied was m rate ceiling e rates in
     let o = begun.left_is was m rate ceiling e in
     lasting room size rate ceiling rates z.rooms (calls.left was m rate ceiling) t (record {
-      held = record { tags = omega (arith, z.tags); units = refl; uses = z.uses; few = subst (λ (h : Shedder). h.tracked ≤ room) (sym o) (opening_few rate ceiling room size); wide = t.wide };
-      span = z.tags;
-      lasts = subst (λ (h : Shedder). steady.Lasts size h m.counted h.flow.at_ms) (sym o) (opening_from rate ceiling room m.counted z.rooms.two);
+      span = ap (λ (s : goal.Beginning). length s.rows.tags) o ∙ started_tags m.rows ∙ z.tags;
+      lasts = subst (λ (s : goal.Beginning). steady.Lasts size s.head m.counted s.head.flow.at_ms) (sym o) (opening_from rate ceiling room m.counted z.rooms.two);
       low = omega (arith, t.clock_is);
     })

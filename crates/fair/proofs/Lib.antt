@@ -1,8 +1,9 @@
 -- One bucket and one record. Floats: the operations in units. Runs: the clock, and histories seen as other histories. Tokens: the bound on a bucket. Paying: a cost taken off. Held: a record, call by call.
 -- Weighing: the numbers of a judgement. Credit: the bound on a record. Spared: no over share. Level: a stored level gives a lawful fill.
 -- The model of the store. Demand: all dimensions, one record. Rows: rows found by a name. Places: sweeps by place. Store: the demand over the model. Bridge: `verdict::judged` is the model's judgement. Example: document 01's run.
--- The real definitions. View: the lent rows as the model's. Sweep, Back, Find: a pass, a put, a search. Entry: the record that a call uses. Tied: the tie, kept by a scan. Outcome, Judging: a judgement.
--- Cutting: a cut. Begun: a start. Stepped: a judgement of the list. Calls: DEMAND 3, of every list of calls. Steady, Lasting: no list leaves a state that refuses.
+-- The real definitions. View, Back: the lent rows as the model's; what is put is read back. Stored, Behind: what holds of the rows; other tags behind theirs. Found, Find, Put, Added, Dropped: a search, a put, a newcomer, visits.
+-- Scanned, Entry: a scan of a judgement; the record that a call uses. Tied: the tie, kept by a scan. Outcome, Judging: a judgement. Cutting: a cut. Begun: a start. Stepped: a judgement of the list.
+-- Calls: DEMAND 3, of every list of calls. Spans, Steady, Lasting: no list leaves a state that refuses.
 pub mod Floats
 pub mod Runs
 pub mod Tokens
@@ -19,9 +20,15 @@ pub mod Store
 pub mod Bridge
 pub mod Example
 pub mod View
-pub mod Sweep
 pub mod Back
+pub mod Stored
+pub mod Behind
+pub mod Found
 pub mod Find
+pub mod Put
+pub mod Added
+pub mod Dropped
+pub mod Scanned
 pub mod Entry
 pub mod Tied
 pub mod Outcome

@@ -1,117 +1,116 @@
 -- No judgement and no cut changes how many tags there are. Assumes nothing.
-use mathlib.Core.Path.{◌≡◌, refl, sym, ap, ◌∙◌}
-use Prim.Native.Nat.{ℕ, zero, suc, ◌+◌, max}
+use mathlib.Core.Path.{◌≡◌, refl, sym, ap, ◌∙◌, subst}
 use mathlib.Core.Bool.{Bool, true, false, cond}
-use mathlib.Core.List.{List}
+use mathlib.Core.List.{List, ◌++◌}
+use Prim.Native.Nat.{ℕ, ◌-◌, ◌+◌, ◌<◌, max}
+use native.Mathlib.Omega.{arith}
 use lib.Dec.{leb, ltb}
-use lib.ListN.{length, get_or, set, take, drop, length-set, length-append, take-append-drop}
+use lib.ListN.{length, get_or, take, drop, replicate, length-append, length-replicate, take-append-drop}
 use lib.Ieee.{Float}
+use Rattle.std.specs.Prelude.{unwrap_or}
+use borrow.Author.Tests.{ltb-true, leb-true}
 use Rattle.flow.specs.Flow as flow
 use Rattle.flow.specs.declared.Use.{Use}
 use Rattle.verdict.specs.Verdict.{is_admitted}
 use Rattle.verdict.specs.declared.Verdict.{Verdict}
-use Rattle.sender.specs.declared.Unit as unit
 use Rattle.sender.specs.declared.Name.{Name}
-use Rattle.sender.specs.Sender as sender
-use Rattle.store.specs.Store as store
-use Rattle.store.specs.Store.{Rows, with_tags}
-use Rattle.store_retain.specs.Retain.{Kept, kept, freed, moved, is_stale, retain_one, retained}
+use Rattle.sender.specs.declared.Unit.{Unit}
+use Rattle.sender.specs.Sender.{name_of, is_overflow, table_of_tag}
+use Rattle.shifting.specs.Shifting.{part}
+use Rattle.shifting.specs.Offsets.{«PARTS»}
+use Rattle.shifting.proofs.Laying.{part_length, length_over}
+use Rattle.shifting.proofs.Places.{length_inserted}
+use Rattle.shifting.proofs.Whole.{whole_below}
+use Rattle.store.specs.Store.{with_tags}
+use Rattle.parts.specs.Parts.{Rows, begin, end, find, put, added, dropped, left, those, stays, squeezed}
+use Rattle.parts.specs.Laws.{Sound}
+use Rattle.parts.proofs.Closing.{tagged}
+use Rattle.parts.proofs.Keeping.{rise, inside, counts}
+use Rattle.store_entry.specs.Entering.{entered, place, entry, back, put_back}
+use Rattle.store_entry.proofs.Own.{table_below}
 use Rattle.wants.specs.Wants.{Hist}
-use Rattle.cut_sources.specs.Counted as counts
+use Rattle.cut_sources.specs.Counted as counting
 use Rattle.cut_sources.proofs.Tagged.{count_long, pruned_long}
 use Rattle.head.specs.declared.Shedder.{Shedder}
 use Rattle.store.specs.declared.Cause.{Cause}
-use Rattle.store_entry.specs.Entering.{back}
 use Rattle.fair.specs.Given as goal
-use Rattle.fair.specs.Given.{Memory, memory}
+use Rattle.fair.specs.Given.{Memory}
+use Rattle.fair.proofs.Entry as model_entry
+use Rattle.fair.proofs.Stored.{Held, held_dropped}
+use Rattle.fair.proofs.Scanned.{Counted, visits}
+use Rattle.fair.proofs.Tied.{Tied, begun_tied, visits_are}
+use Rattle.fair.proofs.Judging as judging
 
--- ---- a scan
-freed_span : (m : Rows) (i : ℕ) → length (freed m i).tags ≡ length m.tags
-unfolding freed
-freed_span m i = length-set m.tags i 0
+-- ---- the rows
+put_span : (m : Rows) (k : ℕ) (x : Use) → length (put m k x).tags ≡ length m.tags
+unfolding put
+put_span m k x = refl
 
-moved_span : (m : Rows) (i j : ℕ) → length (moved m i j).tags ≡ length m.tags
-unfolding moved
-moved_span m i j = length-set (set m.tags i 0) j (get_or m.tags i 0) ∙ length-set m.tags i 0
+module _ (m : Rows) (n : ℕ) (s : Sound m n) where
+  added_span : (w : Name) (x : Use) → n < length m.units → table_of_tag w.tag < «PARTS» → length (added m n w x).tags ≡ length m.tags
+  unfolding added
+  added_span w x l t =
+      let z = s.sized.tags in
+      let i = whole_below m.offsets n s.whole (table_of_tag w.tag + 1) (omega arith) in
+      length_inserted 0 m.tags (end m (table_of_tag w.tag)) n w.tag i (omega arith)
 
-one_span : (k : Kept) (table now i : ℕ) → length (retain_one k table now i).rows.tags ≡ length k.rows.tags
-unfolding retain_one
-one_span k table now i = go (is_stale k.rows.tags k.rows.units table now i) (ltb k.count i)
+  dropped_span : (t at_ms : ℕ) → t < «PARTS» → length (dropped m n t at_ms).tags ≡ length m.tags
+  unfolding dropped squeezed
+  dropped_span t at_ms h =
+      let y = s.sized in
+      let yt = y.tags in
+      let r = s.room in
+      let u = rise m n t at_ms s h in
+      let i = inside m n t at_ms s h in
+      let k = those (stays m.slots m.units at_ms) (begin m t) (part m.tags (begin m t) (end m t)) in
+      let c = counts m n t at_ms s h in
+      let g = tagged m.tags m.slots m.offsets m.free m.units m.uses n t at_ms u i r yt y.slots y.free in
+      let p = part m.tags (end m t) n in
+      let z : List ℕ = replicate (end m t - (begin m t + length k)) 0 in
+      let v = length-replicate {A = ℕ} (end m t - (begin m t + length k)) 0 in
+      length_over m.tags (begin m t) ((k ++ p) ++ z) (omega (arith, v, length-append (k ++ p) z, length-append k p, part_length m.tags (end m t) n (omega arith)))
+
+-- ---- the record that a call uses, its use put back, and a scan
+module _ (room : ℕ) (m : Rows) (n : ℕ) (h : Held room m n) where
+  entry_span : (u : Unit) (now : ℕ) → length (entry m n room u now).rows.tags ≡ length m.tags
+  unfolding entry
+  entry_span u now = by (is_overflow u) (ltb (unwrap_or (find m (name_of u)) room) room) (ltb n room) refl
+    where
+      by : (a b c : Bool) → ltb n room ≡ c
+          → length (cond a (entered (place room n) m) (cond b (entered (place (unwrap_or (find m (name_of u)) room) n) m)
+          (cond c (entered (place (end m (table_of_tag (name_of u).tag)) (n + 1)) (added m n (name_of u) (flow.added now)))
+          (entered (place room n) m)))).rows.tags ≡ length m.tags
+      by true b c e = refl
+      by false true c e = refl
+      by false false true e =
+          let l = ltb-true n room e in
+          added_span m n h.well.sound (name_of u) (flow.added now) (omega (arith, h.room_is)) (table_below u)
+      by false false false e = refl
+
+  visits_span : (one two : Bool) (t at_ms : ℕ) → (one ≡ true → t < «PARTS») → (two ≡ true → t + 1 < «PARTS»)
+      → length (visits one two (record { rows = m; count = n }) t at_ms).rows.tags ≡ length m.tags
+  visits_span false two t at_ms f g = refl
+  visits_span true false t at_ms f g = dropped_span m n h.well.sound t at_ms (f refl)
+  visits_span true true t at_ms f g =
+      let k = held_dropped room m n t at_ms h (f refl) in
+      dropped_span (dropped m n t at_ms) (left m n t at_ms) k.well.sound (t + 1) at_ms (g refl) ∙ dropped_span m n h.well.sound t at_ms (f refl)
+
+back_span : (m : Rows) (o : Use) (i : ℕ) (x : Use) → length (put_back m o i x).rows.tags ≡ length m.tags
+unfolding put_back
+back_span m o i x = by (ltb i (length m.units))
   where
-    go : (b c : Bool) → length (cond b (kept k.count (freed k.rows i)) (cond c (kept (k.count + 1) (moved k.rows i k.count)) (kept (k.count + 1) k.rows))).rows.tags ≡ length k.rows.tags
-    go true c = freed_span k.rows i
-    go false true = moved_span k.rows i k.count
-    go false false = refl
-
-retained_span : (m : Rows) (table now n : ℕ) → length (retained m table now n).rows.tags ≡ length m.tags
-unfolding retained
-retained_span m table now zero = refl
-retained_span m table now (suc n) = one_span (retained m table now n) table now n ∙ retained_span m table now n
-
-visit_span : (s : goal.Scanning) → length (goal.visit s).rows.tags ≡ length s.rows.tags
-unfolding goal.visit
-visit_span s = retained_span s.rows s.head.scan.next s.head.scan.at_ms s.head.tracked
-
-again_span : (s : goal.Scanning) → length (goal.again s).rows.tags ≡ length s.rows.tags
-unfolding goal.again
-again_span s = go (leb 1 s.head.scan.remaining)
-  where
-    go : (b : Bool) → length (cond b (goal.visit s) s).rows.tags ≡ length s.rows.tags
-    go true = visit_span s
-    go false = refl
-
-scanned_span : (h : Shedder) (m : Rows) (g : Hist) (clk : ℕ) → length (goal.scanned (goal.scanning h m g) clk).rows.tags ≡ length m.tags
-unfolding goal.scanned
-scanned_span h m g clk = go (goal.begun h g clk)
-  where
-    by : (s : goal.Started) (c : Bool)
-        → length (cond c (goal.ended_at (goal.again (goal.visit (goal.scanning s.head m s.hist)))) (goal.scanning s.head m s.hist)).rows.tags ≡ length m.tags
-    by s true = again_span (goal.visit (goal.scanning s.head m s.hist)) ∙ visit_span (goal.scanning s.head m s.hist)
-    by s false = refl
-
-    go : (s : goal.Started) → length (goal.scanned_from m s).rows.tags ≡ length m.tags
-    go s = by s (leb 1 s.head.scan.remaining)
-
--- ---- a record
-cond_span : (b : Bool) (x y : goal.Entered) (n : ℕ) → length x.rows.tags ≡ n → length y.rows.tags ≡ n → length (cond b x y).rows.tags ≡ n
-cond_span true x y n p q = p
-cond_span false x y n p q = q
-
-added_span : (m : Rows) (i : ℕ) (w : Name) (u : Use) → length (store.added m i w u).tags ≡ length m.tags
-unfolding store.added
-added_span m i w u = length-set m.tags i w.tag
-
-entry_span : (m : Rows) (tracked room : ℕ) (u : unit.Unit) (now : ℕ) → length (goal.entry m tracked room u now).rows.tags ≡ length m.tags
-unfolding goal.entry
-entry_span m tracked room u now =
-    cond_span (sender.is_overflow u) _ _ (length m.tags) refl
-    (cond_span (ltb (store.find m.tags m.units (sender.name_of u) tracked) tracked) _ _ (length m.tags) refl
-    (cond_span (ltb tracked room) _ _ (length m.tags) (added_span m tracked (sender.name_of u) (flow.added now)) refl))
-
-put_span : (m : Rows) (o : Use) (i : ℕ) (u : Use) → length (goal.put_back m o i u).rows.tags ≡ length m.tags
-unfolding goal.put_back store.put
-put_span m o i u = go (ltb i (length m.units))
-  where
-    go : (b : Bool) → length (cond b (back o (store.put m i u)) (back u m)).rows.tags ≡ length m.tags
-    go true = refl
-    go false = refl
-
-judged_span : (h : Shedder) (m : Rows) (u : unit.Unit) (cost : List Float) (now : ℕ) → length (goal.judged h m u cost now).rows.tags ≡ length m.tags
-unfolding goal.judged
-judged_span h m u cost now = put_span _ _ _ _ ∙ entry_span m h.tracked h.unit_room u now
-
-handed_span : (h : Shedder) (m : Rows) (u : unit.Unit) (cost : List Float) → length (goal.handed_back (goal.kept_by h m) u cost).rows.tags ≡ length m.tags
-unfolding goal.handed_back
-handed_span h m u cost = put_span _ _ _ _ ∙ entry_span m h.tracked h.unit_room u h.flow.at_ms
+    by : (c : Bool) → length (cond c (back o (put m i x)) (back x m)).rows.tags ≡ length m.tags
+    by true = put_span m i x
+    by false = refl
 
 -- ---- counting
 tallied_span : (h : Shedder) (i : List ℕ) (k : List (List ℕ)) (n : Name) (c r : ℕ) → length (goal.tallied (goal.tally h i k) n c r).tags ≡ length i
 unfolding goal.tallied
 tallied_span h i k n c r =
     let room : ℕ = h.unit_room in
-    let s = counts.count (drop room i) k h.counted n c in
-    let x : List ℕ = counts.count_tags (drop room i) k h.counted n in
-    length-append (take room i) (counts.pruned_tags s x)
+    let s = counting.count (drop room i) k h.counted n c in
+    let x : List ℕ = counting.count_tags (drop room i) k h.counted n in
+    length-append (take room i) (counting.pruned_tags s x)
     ∙ ap (λ (z : ℕ). length (take room i) + z) (pruned_long s x ∙ count_long (drop room i) k h.counted n)
     ∙ sym (length-append (take room i) (drop room i)) ∙ ap (λ (l : List ℕ). length l) (take-append-drop room i)
 
@@ -124,19 +123,45 @@ counted_span h i k n v cost = go (is_admitted v)
     go false = tallied_span h i k n (goal.cause_of v) (get_or cost 0 0)
 
 -- ---- THE JUDGEMENT and THE CUT
-pub bounded_span : (h : Shedder) (m : Memory) (u : unit.Unit) (cost : List ℕ) (t : ℕ) → length (goal.bounded h m u cost t).memory.rows.tags ≡ length m.rows.tags
-unfolding goal.bounded
-bounded_span h m u cost t =
-    let now = max t h.flow.at_ms in
-    let p = goal.judged h m.rows u (goal.numbers cost) now in
-    let y = goal.count_verdict (goal.tally p.head p.rows.tags m.counted) (sender.name_of u) p.verdict cost in
-    scanned_span y.head (with_tags p.rows y.tags) m.hist now
-    ∙ counted_span p.head p.rows.tags m.counted (sender.name_of u) p.verdict cost ∙ judged_span h m.rows u (goal.numbers cost) now
+module _ (room : ℕ) (rate : List ℕ) where
+  scanned_span : (h : Shedder) (m : Rows) (g : Hist) (st : model_entry.S room) (clk : ℕ) → Tied room rate h m st clk
+      → length (goal.scanned (goal.scanning h m g) clk).rows.tags ≡ length m.tags
+  unfolding goal.scanned
+  scanned_span h m g st clk b =
+      let s = goal.begun h g clk in
+      let r = s.head.scan.remaining in
+      let a = begun_tied room rate h m g st clk b in
+      ap (λ (c : Counted). length c.rows.tags) (visits_are room rate m s)
+      ∙ visits_span room m s.head.tracked a.held (leb 1 r) (leb 1 (r - 1)) s.head.scan.next s.head.scan.at_ms
+      (λ e. omega (arith, leb-true 1 r e, a.tables_is)) (λ e. omega (arith, leb-true 1 (r - 1) e, a.tables_is))
 
-pub after_span : (s : goal.KeptBy) (k : List (List ℕ)) (u : unit.Unit) (c : Cause) (cost : List ℕ) → length (goal.cut_after k u c cost s).rows.tags ≡ length s.rows.tags
+  module _ (h : Shedder) (m : Rows) (st : model_entry.S room) (clk : ℕ) (b : Tied room rate h m st clk) (u : Unit) (cost : List Float) where
+    used_span : (now : ℕ) → length (entry m h.tracked h.unit_room u now).rows.tags ≡ length m.tags
+    used_span now = subst (λ (r : ℕ). length (entry m h.tracked r u now).rows.tags ≡ length m.tags) (sym b.room_is) (entry_span room m h.tracked b.held u now)
+
+    judged_span : (now : ℕ) → length (goal.judged h m u cost now).rows.tags ≡ length m.tags
+    unfolding goal.judged
+    judged_span now = back_span _ _ _ _ ∙ used_span now
+
+    handed_span : length (goal.handed_back (goal.kept_by h m) u cost).rows.tags ≡ length m.tags
+    unfolding goal.handed_back
+    handed_span = back_span _ _ _ _ ∙ used_span h.flow.at_ms
+
+    pub on_span : (c : Bool) → length (cond c (goal.handed_back (goal.kept_by h m) u cost) (goal.kept_by h m)).rows.tags ≡ length m.tags
+    on_span true = handed_span
+    on_span false = refl
+
+  pub bounded_span : (h : Shedder) (m : Memory) (st : model_entry.S room) → Tied room rate h m.rows st h.flow.at_ms → (u : Unit) (cost : List ℕ) (t : ℕ)
+      → length (goal.bounded h m u cost t).memory.rows.tags ≡ length m.rows.tags
+  unfolding goal.bounded
+  bounded_span h m st b u cost t =
+      let now = max t h.flow.at_ms in
+      let p = goal.judged h m.rows u (goal.numbers cost) now in
+      let y = goal.count_verdict (goal.tally p.head p.rows.tags m.counted) (name_of u) p.verdict cost in
+      scanned_span y.head (with_tags p.rows y.tags) m.hist _ now
+      (judging.verdict_tied room rate p.head m.counted (name_of u) p.verdict cost p.rows _ now (judging.judged_tied room rate h m.rows st b u cost t))
+      ∙ counted_span p.head p.rows.tags m.counted (name_of u) p.verdict cost ∙ judged_span h m.rows st h.flow.at_ms b u (goal.numbers cost) now
+
+pub after_span : (s : goal.KeptBy) (k : List (List ℕ)) (u : Unit) (c : Cause) (cost : List ℕ) → length (goal.cut_after k u c cost s).rows.tags ≡ length s.rows.tags
 unfolding goal.noted
-after_span s k u c cost = tallied_span s.head s.rows.tags k (sender.name_of u) (goal.index_of c) (get_or cost 0 0)
-
-pub on_span : (b : Bool) (h : Shedder) (m : Rows) (u : unit.Unit) (cost : List Float) → length (cond b (goal.handed_back (goal.kept_by h m) u cost) (goal.kept_by h m)).rows.tags ≡ length m.tags
-on_span true h m u cost = handed_span h m u cost
-on_span false h m u cost = refl
+after_span s k u c cost = tallied_span s.head s.rows.tags k (name_of u) (goal.index_of c) (get_or cost 0 0)

@@ -1,22 +1,28 @@
--- The lent rows as the model's: the live records as a list of rows, in order of arrival, each under its name. Definitions, and what they amount to. Assumes nothing.
+-- The records table by table as the model's rows: the live records as a list, in the order of the index, each under its name. Definitions,
+-- and what they amount to. Assumes nothing.
 use mathlib.Core.Path.{◌≡◌, refl, sym, ap, ◌∙◌, subst}
-use Prim.Native.Nat.{ℕ, zero, suc, ◌+◌, ◌-◌}
-use native.Mathlib.Numerals.{add-one}
+use Prim.Native.Nat.{ℕ, zero, suc, ◌<◌}
+use native.Mathlib.Omega.{arith}
 use mathlib.Core.Bool.{Bool, true, false, ◌&&◌, true≢false}
-use mathlib.Core.List.{List, [], ◌∷◌, ◌++◌}
-use lib.Dec.{T, eqb, ltb}
-use lib.ListN.{length, length-append}
+use mathlib.Core.List.{List, [], ◌∷◌, ◌++◌, map}
+use lib.Dec.{T, eqb}
+use lib.ListN.{length, get_or, length-map}
 use borrow.Author.Tests.{eqb-true, eq-eqb}
+use Rattle.std.proofs.lemmas.Bool.{and_parts}
+use Rattle.std.proofs.lemmas.List.{map-append, get_or-map}
 use Rattle.flow.specs.declared.Use.{Use}
 use Rattle.sender.specs.declared.Name as sender_name
 use Rattle.sender.specs.Sender as sender
 use Rattle.sender.specs.declared.Unit as unit
 use Rattle.store.specs.Store as store
-use Rattle.store.specs.Store.{Rows, name_at}
+use Rattle.store.specs.Store.{Record, words_at, use_at}
 use Rattle.store.proofs.Names as stored
-use Rattle.std.proofs.lemmas.Bool.{and_parts}
+use Rattle.parts.specs.Parts.{Rows, use_of}
+use Rattle.parts.specs.Laws as laws
+use Rattle.parts.proofs.Listing as listing
+use Rattle.parts.proofs.Listing.{no_record}
+use Rattle.store_entry.specs.Own.{name_at}
 use Rattle.fair.specs.Store as model
-use Rattle.fair.proofs.Places.{anywhere}
 use Rattle.fair.specs.Calls.{same_name}
 
 -- ---- names
@@ -79,25 +85,39 @@ module _ (room : ℕ) where
   abbrev pub R : Type 0
   R = model.Row Name same shares room
 
-  -- without the rows of which p holds, wherever they stand
-  abbrev pub sweep : (R → Bool) → List R → List R
-  sweep p rs = model.sweep Name same shares room (anywhere Name same shares room p) rs
-
   abbrev pub row : sender_name.Name → Use → R
   row w u = record { name = named w; used = u }
 
   unfoldable pub record_at : Rows → ℕ → R
-  record_at m i = row (name_at m.tags m.units i) (store.use_at m i)
+  record_at m k = row (name_at m k) (use_of m k)
 
   unfoldable pub listed : Rows → ℕ → List R
   listed m zero = []
   listed m (suc n) = listed m n ++ (record_at m n ∷ [])
 
-  -- of the table that the scan comes by, and more than 8 s old
-  abbrev pub stale : ℕ → ℕ → R → Bool
-  stale table at r = eqb (sender.table_of_tag r.name.name.tag) table && ltb 8000 (at - r.used.at_ms)
+  -- a record as a row
+  unfoldable pub row_of : Record → R
+  row_of r = row (store.name_at (r.tag ∷ []) (r.words ∷ []) 0) (use_at (r.words ∷ []) (r.floats ∷ []) 0)
+
+  pub record_row : (m : Rows) (k : ℕ) → record_at m k ≡ row_of (laws.record_at m k)
+  unfolding record_at row_of laws.record_at use_of use_at words_at
+  record_row m k = refl
+
+  -- THE LIST: that of the records, each as a row
+  pub listed_rows : (m : Rows) (n : ℕ) → listed m n ≡ map row_of (laws.listed m n)
+  unfolding listed laws.listed
+  listed_rows m zero = refl
+  listed_rows m (suc n) = simp (listed_rows m n, record_row m n) (sym (map-append row_of (laws.listed m n) (laws.record_at m n ∷ [])))
 
   pub listed_length : (m : Rows) (n : ℕ) → length (listed m n) ≡ n
-  unfolding listed
-  listed_length m zero = refl
-  listed_length m (suc n) = length-append (listed m n) (record_at m n ∷ []) ∙ ap (λ (k : ℕ). k + 1) (listed_length m n) ∙ add-one n
+  listed_length m n = ap length (listed_rows m n) ∙ length-map (laws.listed m n) row_of ∙ listing.length_listed m n
+
+  -- what a place past the list reads as
+  abbrev pub no_row : R
+  no_row = row_of no_record
+
+  pub listed_at : (m : Rows) (n k : ℕ) → k < n → get_or (listed m n) k no_row ≡ record_at m k
+  listed_at m n k h =
+      ap (λ (l : List R). get_or l k no_row) (listed_rows m n)
+      ∙ get_or-map row_of (laws.listed m n) k no_record no_row (omega (arith, listing.length_listed m n))
+      ∙ ap row_of (listing.listed_at no_record m n k h) ∙ sym (record_row m k)

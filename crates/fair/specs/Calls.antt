@@ -1,7 +1,7 @@
 -- Demand 3, in terms of the real calls: every list of calls on one shedder's head and memory, from a start at bounded rates on. Definitions, and the statement.
 -- It says in exact terms what document 01 asks of a list of calls (its section on the verdict). All quantities come from the definitions that the contracts cite (`judge`, `cut` and what they
 -- are made of), and nothing out of the program. Crate meaning's page says the same of each call: meaning/proofs/Agrees proves them equal.
-use Rattle.std.specs.Prelude.{ℕ, suc, ◌+◌, ◌-◌, ◌*◌, ◌≤◌, ◌<◌, max, ◌≡◌, Bool, true, false, cond, ◌&&◌, List, [], ◌∷◌, T, eqb, ltb, length, get_or, Float, Result, Ok, Err}
+use Rattle.std.specs.Prelude.{ℕ, suc, ◌+◌, ◌-◌, ◌*◌, ◌≤◌, ◌<◌, max, ◌≡◌, Bool, true, false, cond, ◌&&◌, List, [], ◌∷◌, T, eqb, ltb, length, get_or, is_some, Float, Result, Ok, Err}
 use Rattle.std.specs.Float.Ieee as Ieee
 use Rattle.std.specs.Float.Ieee.Exact.{HasValue}
 use Rattle.ieee.specs.Doubles.{◌⊴◌, ◌⊲◌, one, nothing}
@@ -73,11 +73,11 @@ cuts s u c cost = shed.cut s.head s.memory.rows s.memory.counted u c cost
 abbrev pub read_number : State → Reading → ℕ
 read_number s (Report out) = report_number s out
 read_number s (ReportBeside out) = report_number s out
-read_number s (Count c) = shed.reading_number (shed.cut_batches s.head c)
-read_number s Visited = shed.reading_number (shed.visited_tables s.head)
-read_number s (Level d) = shed.level_number (shed.level_read s.head d)
-read_number s (Rate d) = shed.rate_number (shed.rate_read s.head d)
-read_number s IsBounded = shed.bounded_number (shed.is_bounded s.head)
+read_number s (Count c) = shed.reading_number (shed.cut_batches s.head s.memory.rows.offsets c)
+read_number s Visited = shed.reading_number (shed.visited_tables s.head s.memory.rows.offsets)
+read_number s (Level d) = shed.level_number (shed.level_read s.head s.memory.rows.offsets d)
+read_number s (Rate d) = shed.rate_number (shed.rate_read s.head s.memory.rows.offsets d)
+read_number s IsBounded = shed.bounded_number (shed.is_bounded s.head s.memory.rows.offsets)
 
 abbrev pub number : State → Call → ℕ
 number s (Judge u cost t) = shed.judge_number (judges s u cost t).answer
@@ -237,7 +237,7 @@ module _ (r : Key) where
 -- the record is in the store; overflow's always is
 abbrev pub present : Key → State → Bool
 present shared s = true
-present (own u) s = ltb (store.find s.memory.rows.tags s.memory.rows.units (sender.name_of u) s.head.tracked) s.head.tracked
+present (own u) s = is_some (shed.find s.memory.rows (sender.name_of u))
 
 abbrev pub present_after : Key → List Event → Bool
 present_after r [] = false
@@ -283,16 +283,16 @@ pub record Demand (rate ceiling : List ℕ) (first : State) : Type 0 where
 pub record Lasting (first : State) : Type 0 where
   pub judge : (h : List Call) (u : unit.Unit) (cost : List ℕ) (t : ℕ) → shed.costs_held cost ≡ true → shed.is_stamp t ≡ true → refused (state first h) (Judge u cost t) ≡ false
   pub cut : (h : List Call) (u : unit.Unit) (c : Cause) (cost : List ℕ) → shed.costs_held cost ≡ true → refused (state first h) (Cut u c cost) ≡ false
-  pub head : (h : List Call) → shed.head_whole (state first h).head ≡ true
+  pub head : (h : List Call) → shed.whole_with (state first h).head (state first h).memory.rows.offsets ≡ true
   pub memory : (h : List Call)
       → shed.memory_whole (state first h).head (sizes_of (state first h).memory.rows (state first h).memory.counted) ≡ true
 
--- what a start leaves: its head and the cleared histogram; the records are as they were lent
+-- what a start leaves: its head, its rows, where no record stands, and the cleared histogram
 abbrev pub starts : Shedder → Memory → List ℕ → List ℕ → shed.Beginning
-starts was m rate ceiling = shed.start was (sizes_of m.rows m.counted) m.hist rate ceiling
+starts was m rate ceiling = shed.start was m.rows m.counted m.hist rate ceiling
 
 abbrev pub left : Shedder → Memory → List ℕ → List ℕ → State
-left was m rate ceiling = state_of (starts was m rate ceiling).head (memory m.rows (starts was m rate ceiling).hist m.counted)
+left was m rate ceiling = state_of (starts was m rate ceiling).head (memory (starts was m rate ceiling).rows (starts was m rate ceiling).hist m.counted)
 
 -- from what a start at bounded rates left, whatever head and memory were lent to it; another start is the first state of another list
 abbrev pub Claim : Type 0

@@ -75,7 +75,7 @@ module _ (h : Shedder) (m : Memory) (u : unit.Unit) (cost : List ℕ) (t : ℕ) 
       ex ∙ ap (λ (b : Bool). counted_if b cost) (eg ∙ ap (λ (y : judging.Judged). is_admitted y.answer) e) ∙ admits (judging.judge h m u cost t).answer cost (cost_parts cost ec)
 
   -- on the watched record, unless the judgement was refused
-  judge_on : (watched : unit.Unit) (mine : Bool) (xs ys : List ℕ) (x : ℕ) → mine ≡ on_watched m.rows.tags m.rows.units h.tracked h.unit_room watched u → xs ≡ amounts calls.admitted (calls.state_of h m) (Judge u cost t)
+  judge_on : (watched : unit.Unit) (mine : Bool) (xs ys : List ℕ) (x : ℕ) → mine ≡ on_watched h m.rows m.counted watched u → xs ≡ amounts calls.admitted (calls.state_of h m) (Judge u cost t)
       → ys ≡ counted_if mine xs → x ≡ judge_number j.answer → x ≡ 0 → ys ≡ amounts (calls.admitted_on (key_of watched)) (calls.state_of h m) (Judge u cost t)
   unfolding amounts
   judge_on watched mine xs ys x em ex ey en z =
@@ -85,7 +85,7 @@ module _ (h : Shedder) (m : Memory) (u : unit.Unit) (cost : List ℕ) (t : ℕ) 
 
 -- all of it, by what the program read before and after
 pub judge_turns : (h : Shedder) (m : Memory) (u : unit.Unit) (cost : List ℕ) (t : ℕ) (j : Judgement) (n : Memory) (watched : unit.Unit) (mine goes over : Bool) (xs ys : List ℕ) (x : ℕ)
-    → length cost ≡ dims → mine ≡ on_watched m.rows.tags m.rows.units h.tracked h.unit_room watched u
+    → length cost ≡ dims → mine ≡ on_watched h m.rows m.counted watched u
     → judging.judgement j n ≡ judging.judge h m u cost t → x ≡ judge_number j.answer → goes ≡ is_admitted j.answer → xs ≡ counted_if goes cost → ys ≡ counted_if mine xs → over ≡ is_over_share j.answer
     → Turns watched (calls.state_of h m) (Judge u cost t) (turned j.head x xs ys (replicate dims 0) over) (calls.state_of j.head n)
 judge_turns h m u cost t j n watched mine goes over xs ys x ec em e en eg ex ey eo =

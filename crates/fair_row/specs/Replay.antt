@@ -1,9 +1,11 @@
 -- A list of calls, as the program is given it, and what running it leaves. Definitions only.
-use Rattle.std.specs.Prelude.{ℕ, zero, suc, ◌+◌, ◌^◌, ◌%◌, ◌≡◌, Bool, true, false, cond, ◌&&◌, List, [], ◌∷◌, eqb, leb, ltb, length, get_or, slice_index_or, replicate, Result, Ok, Err}
+use Rattle.std.specs.Prelude.{ℕ, zero, suc, ◌+◌, ◌^◌, ◌%◌, ◌≡◌, Bool, true, false, cond, ◌&&◌, List, [], ◌∷◌, eqb, leb, ltb, length, get_or, slice_index_or, replicate, is_some, Result, Ok, Err}
 use Rattle.flow.specs.Flow.{dims, upto}
 use Rattle.sender.specs.declared.Unit as unit
 use Rattle.sender.specs.Sender as sender
-use Rattle.store.specs.Store as store
+use Rattle.store.specs.Store.{Rows}
+use Rattle.parts.specs.Parts.{find}
+use Rattle.head.specs.Questions.{whole_with, memory_whole}
 use Rattle.store.specs.Held.{sizes_of, lent_rows, read_rows}
 use Rattle.wants.specs.Wants.{Hist}
 use Rattle.head.specs.declared.Shedder.{Shedder}
@@ -156,17 +158,16 @@ ends_over_share (suc n) (e ∷ es) = over_share e.before e.call
 unfoldable pub key_of : unit.Unit → Key
 key_of watched = cond (sender.is_overflow watched) calls.shared (calls.own watched)
 
--- whether a judgement uses the unit's own record: overflow has none; it is found among those tracked, or there is room to add it. Where a list is shorter than `tracked` the judgement is refused
-unfoldable pub own_used : List ℕ → List (List ℕ) → ℕ → ℕ → unit.Unit → Bool
-own_used tags units tracked room u =
+-- whether a judgement uses the unit's own record: overflow has none; there is room to add it, or it is found. Where question 3 or 4 is answered no the judgement is refused
+unfoldable pub own_used : Shedder → Rows → List (List ℕ) → unit.Unit → Bool
+own_used h m counted u =
     cond (sender.is_overflow u) false
-    (cond (ltb tracked room) true
-    (cond (ltb (length tags) tracked) false
-    (cond (ltb (length units) tracked) false (ltb (store.find tags units (sender.name_of u) tracked) tracked))))
+    (cond (ltb h.tracked h.unit_room) true
+    (cond (whole_with h m.offsets && memory_whole h (sizes_of m counted)) (is_some (find m (sender.name_of u))) false))
 
 -- and whether the record that it uses is the watched one
-unfoldable pub on_watched : List ℕ → List (List ℕ) → ℕ → ℕ → unit.Unit → unit.Unit → Bool
-on_watched tags units tracked room watched u = calls.same_key (key_of watched) (calls.key_at (own_used tags units tracked room u) u)
+unfoldable pub on_watched : Shedder → Rows → List (List ℕ) → unit.Unit → unit.Unit → Bool
+on_watched h m counted watched u = calls.same_key (key_of watched) (calls.key_at (own_used h m counted u) u)
 
 -- ---- one call
 -- of a call that amounts to nothing

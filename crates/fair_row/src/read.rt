@@ -46,13 +46,14 @@ pub fn answer_reading(head: Shedder, lent: &LentRead<'_>, reading: Reading, out:
         (replay.held_read g head lent.now)
         (replay.reading_of reading out.old) out.old }
 {
+    let offsets = lent.offsets;
     match reading {
         Reading::Report => put_report(head, lent, out),
         Reading::ReportBeside => answer_number(report::report_refusal(head, lent, out)),
-        Reading::Count(cause) => answer_number(head_readings::cut_batches(head, cause)),
-        Reading::Visited => answer_number(head_readings::visited(head)),
-        Reading::Level(dim) => answer_number(head_readings::level(head, dim)),
-        Reading::Rate(dim) => answer_number(head_readings::rate(head, dim)),
-        Reading::IsBounded => answer_number(head_readings::is_bounded(head)),
+        Reading::Count(cause) => answer_number(head_readings::cut_batches(head, offsets, cause)),
+        Reading::Visited => answer_number(head_readings::visited(head, offsets)),
+        Reading::Level(dim) => answer_number(head_readings::level(head, offsets, dim)),
+        Reading::Rate(dim) => answer_number(head_readings::rate(head, offsets, dim)),
+        Reading::IsBounded => answer_number(head_readings::is_bounded(head, offsets)),
     }
 }

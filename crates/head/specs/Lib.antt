@@ -3,3 +3,4 @@ pub mod Answers
 pub mod Start
 pub mod Readings
 pub mod Bits
+pub mod Headed

@@ -3,6 +3,7 @@
 use Rattle.std.specs.Prelude.{ℕ, ◌+◌, ◌^◌, ◌≤◌, ◌<◌, ◌≡◌, Bool, false, ◌&&◌, cond, ◌||◌, List, eqb, leb, ltb, get_or}
 use Rattle.flow.specs.Flow.{all, dims, «UNBOUNDED», RATE_MOST}
 use Rattle.sender.specs.Sender.{«TABLES»}
+use Rattle.shifting.specs.Offsets.{Whole, is_whole}
 use Rattle.store.specs.declared.lent.Sizes.{Sizes}
 use Rattle.head.specs.declared.Shedder.{Shedder}
 
@@ -50,9 +51,13 @@ rooms_whole u c tracked counted =
 unfoldable pub tags_whole : Sizes → Bool
 tags_whole s = eqb s.tags (s.units + s.counted)
 
+-- of the index, of the free slots and of both rows one for each record
+unfoldable pub slots_whole : Sizes → Bool
+slots_whole s = eqb s.slots s.units && (eqb s.free s.units && eqb s.uses s.units)
+
 -- by the lengths of the lent slices
 unfoldable pub sizes_whole : Sizes → Bool
-sizes_whole s = tags_whole s && (eqb s.uses s.units && rooms_whole s.units s.counted 0 0)
+sizes_whole s = tags_whole s && (slots_whole s && rooms_whole s.units s.counted 0 0)
 
 -- ---- question 3: the head is whole
 -- at most 2^53 − 1
@@ -71,38 +76,47 @@ head_whole h =
     (rates_whole h.flow.rate && stamps_whole h.flow.at_ms h.scan.at_ms h.scan.began_ms h.scan.read_ms)
     && (tables_whole h.scan.remaining h.scan.next && rooms_whole h.unit_room h.counted_room h.tracked h.counted)
 
+-- with the offsets, which are lent beside it and count as its part: they begin at 0, never fall and end at the number of records in use
+unfoldable pub whole_with : Shedder → List ℕ → Bool
+whole_with h os = head_whole h && is_whole os h.tracked
+
 -- ---- question 4: the lent slices have the capacities noted at the start
 unfoldable pub memory_whole : Shedder → Sizes → Bool
-memory_whole h s = tags_whole s && (eqb s.units h.unit_room && (eqb s.uses h.unit_room && eqb s.counted h.counted_room))
+memory_whole h s = tags_whole s && (slots_whole s && (eqb s.units h.unit_room && eqb s.counted h.counted_room))
 
 -- ---- question 5: each cost is at most 2^40 (question 6 is `is_stamp` of the stamp)
 unfoldable pub costs_held : List ℕ → Bool
 costs_held xs = all (λ (d : ℕ). leb (get_or xs d 0) COST_MOST) dims
 
--- ---- the number of the first question answered no, else 0: at a start, a judgement, a cut, a reading; by the lengths of the lent slices
+-- ---- the number of the first question answered no, else 0: at a start, a judgement, a cut, a reading; by the lengths of the lent slices and the offsets
 unfoldable pub start_asked : List ℕ → Sizes → ℕ
 start_asked rate s = cond (rates_whole rate) (cond (sizes_whole s) 0 2) 1
 
-unfoldable pub judge_asked : Shedder → Sizes → List ℕ → ℕ → ℕ
-judge_asked h s cost stamp = cond (head_whole h) (cond (memory_whole h s) (cond (costs_held cost) (cond (is_stamp stamp) 0 6) 5) 4) 3
+unfoldable pub judge_asked : Shedder → Sizes → List ℕ → List ℕ → ℕ → ℕ
+judge_asked h s os cost stamp = cond (whole_with h os) (cond (memory_whole h s) (cond (costs_held cost) (cond (is_stamp stamp) 0 6) 5) 4) 3
 
-unfoldable pub cut_asked : Shedder → Sizes → List ℕ → ℕ
-cut_asked h s cost = cond (head_whole h) (cond (memory_whole h s) (cond (costs_held cost) 0 5) 4) 3
+unfoldable pub cut_asked : Shedder → Sizes → List ℕ → List ℕ → ℕ
+cut_asked h s os cost = cond (whole_with h os) (cond (memory_whole h s) (cond (costs_held cost) 0 5) 4) 3
 
-unfoldable pub read_asked : Shedder → ℕ
-read_asked h = cond (head_whole h) 0 3
+unfoldable pub read_asked : Shedder → List ℕ → ℕ
+read_asked h os = cond (whole_with h os) 0 3
 
 -- ---- what the questions have shown, for the calls behind them
-pub record CutReady (h : Shedder) (s : Sizes) : Type 0 where
+pub record CutReady (h : Shedder) (s : Sizes) (os : List ℕ) : Type 0 where
+  pub some : 1 ≤ h.unit_room
+  pub most : h.unit_room ≤ UNITS_TRACKED
   pub tags_room : s.tags ≡ h.unit_room + s.counted
+  pub slots_room : s.slots ≡ h.unit_room
+  pub free_room : s.free ≡ h.unit_room
   pub units_room : s.units ≡ h.unit_room
   pub uses_room : s.uses ≡ h.unit_room
   pub tracked_held : h.tracked ≤ h.unit_room
   pub counted_held : h.counted < s.counted
+  pub parts : Whole os h.tracked
 
 -- a judgement: what a cut is shown, and more
-pub record Ready (h : Shedder) (s : Sizes) (stamp : ℕ) : Type 0 where
-  pub cut : CutReady h s
+pub record Ready (h : Shedder) (s : Sizes) (os : List ℕ) (stamp : ℕ) : Type 0 where
+  pub cut : CutReady h s os
   pub stamp_held : stamp < STAMP_END
   pub clock_held : h.flow.at_ms < STAMP_END
   pub began_held : h.scan.began_ms < STAMP_END

@@ -1,5 +1,5 @@
 -- The start: the head that it makes. Definitions only.
-use Rattle.std.specs.Prelude.{cond, ℕ, ⊤, List, eqb, get_or, replicate, Float, Result, Ok}
+use Rattle.std.specs.Prelude.{cond, ℕ, ⊤, List, eqb, length, get_or, replicate, Float, Result, Ok}
 use Rattle.std.specs.Float.{binary64}
 use Rattle.std.specs.Float.Ieee.{of_bits}
 use Rattle.ieee.specs.Doubles.{◌⊘◌, nothing, one}
@@ -7,8 +7,9 @@ use Rattle.flow.specs.Flow as flow
 use Rattle.flow.specs.Flow.{at, upto, zeros, numbers, dims}
 use Rattle.ieee.specs.Extremes.{least}
 use Rattle.flow.specs.declared.Bucket.{Bucket}
-use Rattle.store.specs.Store.{«CAUSES»}
-use Rattle.store.specs.declared.lent.Sizes.{Sizes}
+use Rattle.store.specs.Store.{«CAUSES», Rows}
+use Rattle.store.specs.Held.{sizes_of}
+use Rattle.parts.specs.Parts.{started}
 use Rattle.wants.specs.Wants as wants
 use Rattle.wants.specs.Wants.{Hist}
 use Rattle.head.specs.declared.Shedder.{Shedder}
@@ -51,18 +52,21 @@ opening rate ceiling units counted = record {
   counted_room = counted;
 }
 
+-- an answer, the head, the unit records and the histogram
 pub record Beginning : Type 0 where
   pub answer : Result ⊤ Refusal
   pub head : Shedder
+  pub rows : Rows
   pub hist : Hist
 
-abbrev pub beginning : Starting → Hist → Beginning
-beginning s g = record { answer = s.answer; head = s.head; hist = g }
+abbrev pub beginning : Starting → Rows → Hist → Beginning
+beginning s m g = record { answer = s.answer; head = s.head; rows = m; hist = g }
 
-abbrev pub start_ends : Result ⊤ Refusal → Shedder → Hist → Beginning
-start_ends b h g = record { answer = b; head = h; hist = g }
+abbrev pub start_ends : Result ⊤ Refusal → Shedder → Rows → Hist → Beginning
+start_ends b h m g = record { answer = b; head = h; rows = m; hist = g }
 
--- THE START: no record is written; a refused one leaves the head that was
-unfoldable pub start : Shedder → Sizes → Hist → List ℕ → List ℕ → Beginning
-start h s g rate ceiling =
-    cond (eqb (start_asked rate s) 0) (start_ends (Ok tt) (opening rate ceiling s.units s.counted) wants.cleared) (start_ends (refused (start_asked rate s)) h g)
+-- THE START: every part is empty and every slot free, no record is written; a refused one leaves all as it was
+unfoldable pub start : Shedder → Rows → List (List ℕ) → Hist → List ℕ → List ℕ → Beginning
+start h m counted g rate ceiling =
+    cond (eqb (start_asked rate (sizes_of m counted)) 0) (start_ends (Ok tt) (opening rate ceiling (length m.units) (length counted)) (started m) wants.cleared)
+    (start_ends (refused (start_asked rate (sizes_of m counted))) h m g)

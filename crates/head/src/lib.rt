@@ -2,7 +2,7 @@
 #![tactic(auto)]
 
 ghost use Rattle.std.specs.Prelude.{◌≡◌};
-ghost use Rattle.store.specs.Held.{read_sizes};
+ghost use Rattle.store.specs.Held.{lent_rows, lent_sizes, SameLent};
 ghost use Rattle.wants.specs.Held.{wants_held, SameArrays};
 ghost use Rattle.head.specs.Questions as asked;
 ghost use Rattle.head.specs.Answers as answers;
@@ -12,7 +12,7 @@ ghost use Rattle.head.specs.Bits.{SameButNanBits};
 use flow::{Bucket, DIMS, RATE_MOST, UNBOUNDED, Use};
 use sender::TABLES;
 pub use store::{CAUSES, Cause};
-use store::{LentRead, Sizes};
+use store::{Lent, OFFSETS, Sizes};
 use wants::Histogram;
 
 // Units tracked at most. Every further one shares overflow's record.
@@ -197,6 +197,14 @@ pub fn head_whole(h: Shedder) -> bool
         && rooms_whole(h.unit_room, h.counted_room, h.tracked, h.counted)
 }
 
+// Question 3 with the offsets, which are lent beside the head and count as its part.
+#[tactic(auto, unfolding(crate::specs::Questions::whole_with))]
+pub fn whole_with(h: Shedder, offsets: &[u32; OFFSETS]) -> bool
+    ensures { result ≡ asked.whole_with h offsets.now }
+{
+    head_whole(h) && shifting::is_whole(offsets, h.tracked)
+}
+
 // A tag for each record, those of the counted records behind those of the unit records.
 #[tactic(auto, unfolding(crate::specs::Questions::tags_whole))]
 fn tags_whole(sizes: Sizes) -> bool
@@ -205,14 +213,22 @@ fn tags_whole(sizes: Sizes) -> bool
     sizes.units <= sizes.tags && sizes.tags - sizes.units == sizes.counted
 }
 
+// Of the index, of the free slots and of both rows one for each record.
+#[tactic(auto, unfolding(crate::specs::Questions::slots_whole))]
+fn slots_whole(sizes: Sizes) -> bool
+    ensures { result ≡ asked.slots_whole sizes }
+{
+    sizes.slots == sizes.units && sizes.free == sizes.units && sizes.uses == sizes.units
+}
+
 // Question 4.
 #[tactic(auto, unfolding(crate::specs::Questions::memory_whole))]
 pub fn memory_whole(h: Shedder, sizes: Sizes) -> bool
     ensures { result ≡ asked.memory_whole h sizes }
 {
     tags_whole(sizes)
+        && slots_whole(sizes)
         && sizes.units == h.unit_room
-        && sizes.uses == h.unit_room
         && sizes.counted == h.counted_room
 }
 
@@ -221,7 +237,7 @@ pub fn memory_whole(h: Shedder, sizes: Sizes) -> bool
 fn sizes_whole(sizes: Sizes) -> bool
     ensures { result ≡ asked.sizes_whole sizes }
 {
-    tags_whole(sizes) && sizes.uses == sizes.units && rooms_whole(sizes.units, sizes.counted, 0, 0)
+    tags_whole(sizes) && slots_whole(sizes) && rooms_whole(sizes.units, sizes.counted, 0, 0)
 }
 
 // The questions of a call in their order; the first answered no refuses it.
@@ -239,10 +255,16 @@ fn start_asked(rate: [u64; DIMS], sizes: Sizes) -> Result<(), Refusal>
 }
 
 #[tactic(auto, unfolding(crate::specs::Questions::judge_asked, crate::specs::Questions::cut_asked, crate::specs::Answers::answer_number, crate::specs::Answers::number_of))]
-pub fn judge_asked(h: Shedder, sizes: Sizes, cost: [u64; DIMS], stamp: u64) -> Result<(), Refusal>
-    ensures { answers.answer_number result ≡ asked.judge_asked h sizes cost stamp }
+pub fn judge_asked(
+    h: Shedder,
+    sizes: Sizes,
+    offsets: &[u32; OFFSETS],
+    cost: [u64; DIMS],
+    stamp: u64,
+) -> Result<(), Refusal>
+    ensures { answers.answer_number result ≡ asked.judge_asked h sizes offsets.now cost stamp }
 {
-    cut_asked(h, sizes, cost)?;
+    cut_asked(h, sizes, offsets, cost)?;
     if !is_stamp(stamp) {
         return Err(Refusal::Stamp);
     }
@@ -250,10 +272,15 @@ pub fn judge_asked(h: Shedder, sizes: Sizes, cost: [u64; DIMS], stamp: u64) -> R
 }
 
 #[tactic(auto, unfolding(crate::specs::Questions::cut_asked, crate::specs::Questions::read_asked, crate::specs::Answers::answer_number, crate::specs::Answers::number_of))]
-pub fn cut_asked(h: Shedder, sizes: Sizes, cost: [u64; DIMS]) -> Result<(), Refusal>
-    ensures { answers.answer_number result ≡ asked.cut_asked h sizes cost }
+pub fn cut_asked(
+    h: Shedder,
+    sizes: Sizes,
+    offsets: &[u32; OFFSETS],
+    cost: [u64; DIMS],
+) -> Result<(), Refusal>
+    ensures { answers.answer_number result ≡ asked.cut_asked h sizes offsets.now cost }
 {
-    read_asked(h)?;
+    read_asked(h, offsets)?;
     if !memory_whole(h, sizes) {
         return Err(Refusal::Memory);
     }
@@ -264,10 +291,10 @@ pub fn cut_asked(h: Shedder, sizes: Sizes, cost: [u64; DIMS]) -> Result<(), Refu
 }
 
 #[tactic(auto, unfolding(crate::specs::Questions::read_asked, crate::specs::Answers::answer_number, crate::specs::Answers::number_of))]
-pub fn read_asked(h: Shedder) -> Result<(), Refusal>
-    ensures { answers.answer_number result ≡ asked.read_asked h }
+pub fn read_asked(h: Shedder, offsets: &[u32; OFFSETS]) -> Result<(), Refusal>
+    ensures { answers.answer_number result ≡ asked.read_asked h offsets.now }
 {
-    if !head_whole(h) {
+    if !whole_with(h, offsets) {
         return Err(Refusal::Head);
     }
     Ok(())
@@ -325,19 +352,22 @@ fn opening(rate: [u64; DIMS], ceiling: [u64; DIMS], units: usize, counted: usize
     }
 }
 
-// A head for the rates and the ceiling, over the memory lent; no record is written. A refused start leaves the head given.
+// A head for the rates and the ceiling, over the memory lent: every part is empty, every slot free, no record is written. A refused
+// start leaves the head given and the memory.
 pub fn start(
     head: Shedder,
-    lent: &LentRead<'_>,
+    lent: &mut Lent<'_>,
     histogram: &mut Histogram<'_>,
     rate: [u64; DIMS],
     ceiling: [u64; DIMS],
 ) -> Starting
     ensures same_but_nan_bits { SameButNanBits
-        (starts.beginning result (wants_held histogram.new))
-        (starts.start head (read_sizes lent.now) (wants_held histogram.old) rate ceiling) }
+        (starts.beginning result (lent_rows lent.new) (wants_held histogram.new))
+        (starts.start head (lent_rows lent.old) lent.old.counted.now (wants_held histogram.old) rate ceiling) }
+    ensures counted_after { lent.new.counted.now ≡ lent.old.counted.now }
     ensures answer_value { answers.start_number result.answer
-        ≡ asked.start_asked rate (read_sizes lent.now) }
+        ≡ asked.start_asked rate (lent_sizes lent.old) }
+    ensures slices { SameLent lent.old lent.new }
     ensures arrays { SameArrays histogram.old histogram.new }
 {
     if let Err(refusal) = start_asked(rate, lent.sizes()) {
@@ -347,6 +377,7 @@ pub fn start(
         };
     }
     histogram.clear();
+    parts::start(lent.offsets, lent.free);
     Starting {
         answer: Ok(()),
         head: opening(rate, ceiling, lent.units.len(), lent.counted.len()),

@@ -6,7 +6,7 @@ use Prim.Native.Nat.{ℕ, ◌*◌, ◌^◌, ◌≤◌, ◌<◌, max}
 use native.Mathlib.Nat.{le_trans, le_of_eq, mul-le-mul_right}
 use native.Mathlib.Omega.{arith}
 use lib.Dec.{eqb, leb}
-use lib.ListN.{get_or, get_or-replicate, length-replicate}
+use lib.ListN.{length, get_or, get_or-replicate, length-replicate}
 use lib.Ieee as Ieee
 use lib.Ieee.{Float, nan, binary64, of_bits, of_int, le}
 use borrow.Author.Tests.{eqb-true, eq-eqb, leb-true, le-leb}
@@ -26,7 +26,6 @@ use Rattle.sender.specs.declared.Unit.{Unit}
 use Rattle.sender.specs.declared.Name.{Name}
 use Rattle.sender.specs.Sender.{name_of}
 use Rattle.store.specs.Store.{Rows, with_tags}
-use Rattle.store.specs.declared.lent.Sizes.{Sizes}
 use Rattle.store.specs.Held.{sizes_of}
 use Rattle.wants.specs.Wants.{Hist}
 use Rattle.std.proofs.lemmas.Bool.{and_parts}
@@ -112,11 +111,11 @@ opening_in rate ceiling units counted e = record {
   levels = first_in rate e;
 }
 
-start_in : (h : Shedder) (s : Sizes) (g : Hist) (rate ceiling : List ℕ) → start_asked rate s ≡ 0 → InRange (start h s g rate ceiling).head
+start_in : (h : Shedder) (m : Rows) (k : List (List ℕ)) (g : Hist) (rate ceiling : List ℕ) → start_asked rate (sizes_of m k) ≡ 0 → InRange (start h m k g rate ceiling).head
 unfolding start
-start_in h s g rate ceiling e = rw (eq-eqb (start_asked rate s) 0 e) (opening_in rate ceiling s.units s.counted (asked e))
+start_in h m k g rate ceiling e = rw (eq-eqb (start_asked rate (sizes_of m k)) 0 e) (opening_in rate ceiling (length m.units) (length k) (asked e))
   where
-    asked : start_asked rate s ≡ 0 → rates_whole rate ≡ true
+    asked : start_asked rate (sizes_of m k) ≡ 0 → rates_whole rate ≡ true
     asked e = unfold start_asked in (zero_yes (rates_whole rate) _ 0 e).0
 
 -- ---- a judgement: only its scan sets trims and levels
@@ -156,7 +155,7 @@ cond_judged false x y p q = q
 judge_in : (h : Shedder) (m : Memory) (u : Unit) (cost : List ℕ) (stamp : ℕ) → head_whole h ≡ true → InRange h → InRange (judge h m u cost stamp).head
 unfolding judge Held
 judge_in h m u cost stamp w p =
-    cond_judged (eqb (judge_asked h (sizes_of m.rows m.counted) cost stamp) 0) _ _
+    cond_judged (eqb (judge_asked h (sizes_of m.rows m.counted) m.rows.offsets cost stamp) 0) _ _
     (cond_judged (is_unbounded h.flow.rate) _ _ p (bounded_in h m u cost stamp (rates_of h w, p))) p
 
 -- ---- a cut
@@ -175,7 +174,7 @@ cond_cut false x y p q = q
 cut_in : (h : Shedder) (m : Rows) (k : List (List ℕ)) (u : Unit) (c : Cause) (cost : List ℕ) → InRange h → InRange (cut h m k u c cost).head
 unfolding cut
 cut_in h m k u c cost p =
-    cond_cut (eqb (cut_asked h (sizes_of m k) cost) 0) _ _
+    cond_cut (eqb (cut_asked h (sizes_of m k) m.offsets cost) 0) _ _
     (cond_cut (hands_back h.flow.rate c) _ _ (after_in (handed_back (kept_by h m) u (numbers cost)) k u c cost (handed_in h m u (numbers cost) p))
     (after_in (kept_by h m) k u c cost p)) p
 

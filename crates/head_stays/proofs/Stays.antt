@@ -1,84 +1,90 @@
--- A judgement and a cut leave the head whole. Assumes nothing.
+-- A judgement and a cut leave the head whole, and the offsets. Assumes nothing.
 use mathlib.Core.Path.{◌≡◌, refl, sym, ◌∙◌}
 use mathlib.Core.Bool.{Bool, true, false, cond}
 use mathlib.Core.List.{List, [], ◌∷◌}
 use Prim.Native.Nat.{ℕ, ◌+◌, ◌%◌, ◌^◌, ◌≤◌, ◌<◌, max}
 use native.Mathlib.Omega.{arith}
 use lib.Dec.{eqb, ltb}
-use lib.ListN.{length, get_or, set, length-set}
+use lib.ListN.{length, get_or, set, take, drop, length-set, length-append}
+use lib.Seq.{length-take-le}
 use lib.Ieee.{Float}
 use borrow.Author.Tests.{ltb-true, ltb-false, eqb-true}
+use Rattle.flow.specs.Flow as flow
 use Rattle.flow.specs.Flow.{numbers}
 use Rattle.verdict.specs.Verdict.{is_admitted}
 use Rattle.verdict.specs.declared.Verdict.{Verdict}
 use Rattle.sender.specs.declared.Unit.{Unit}
 use Rattle.sender.specs.declared.Words.{Words}
 use Rattle.sender.specs.declared.Name.{Name}
-use Rattle.sender.specs.Sender.{name_of, is_overflow}
+use Rattle.sender.specs.Sender.{name_of}
 use Rattle.cut_sources.specs.Counted as counts
-use Rattle.store.specs.Store.{Rows, with_tags, find}
+use Rattle.store.specs.Store.{Rows, with_tags}
 use Rattle.store.specs.Held.{sizes_of}
 use Rattle.cut_sources.specs.Counted.{Sources, sources, counted_find, counted_up, counted_add}
 use Rattle.cut_sources.proofs.Pruning.{frees}
 use Rattle.head.specs.declared.Shedder.{Shedder}
 use Rattle.store.specs.declared.Cause.{Cause}
-use Rattle.head.specs.Questions.{is_unbounded, head_whole, judge_asked, cut_asked}
+use Rattle.head.specs.Questions.{is_unbounded, whole_with, judge_asked, cut_asked, CutReady}
 use Rattle.head.specs.Readings.{index_of}
-use Rattle.head.proofs.Asked.{asked_ready}
+use Rattle.head.proofs.Asked.{with_of, with_is, asked_ready, cut_ready, sized_of}
 use Rattle.scan.specs.Scanning.{scanning}
-use Rattle.store_entry.specs.Entering.{Entered, entry}
+use Rattle.store_entry.specs.Entering.{entry, used_at}
 use Rattle.cut_counts.specs.Counting.{Tally, tally, source_tags, added, cause_of, tallied, count_verdict}
-use Rattle.judge.specs.Judging.{flowed, judged, Memory, Judged, bounded, judge}
+use Rattle.judge.specs.Judging.{flowed, outcome_at, judged, Memory, Judged, bounded, judge}
 use Rattle.cut.specs.Cutting.{KeptBy, kept_by, hands_back, flowed_back, handed_back, Cut, noted, cut_after, cut}
-use Rattle.head_stays.specs.Whole.{Stays}
+use Rattle.head_stays.specs.Whole.{Long, judged_whole, cut_whole, Stays}
 use Rattle.head.proofs.Whole.{Whole, whole_of, whole_is}
-use Rattle.head_stays.proofs.Whole.{scanned_whole, start_whole, start_keeps, judge_memory, cut_memory, memory_counted}
+use Rattle.head_stays.proofs.Parts.{Fit, fit_entry, fit_back, fit_tags}
+use Rattle.head_stays.proofs.Whole.{Kept, scanned_kept, start_whole, start_keeps, judge_memory, cut_memory, memory_counted}
 
 -- ---- the record
-cond_entered : (b : Bool) (x y : Entered) (n : ℕ) → (b ≡ true → x.place.tracked ≤ n) → y.place.tracked ≤ n → (cond b x y).place.tracked ≤ n
-cond_entered true x y n p q = p refl
-cond_entered false x y n p q = q
-
-entry_held : (m : Rows) (tracked room : ℕ) (u : Unit) (now : ℕ) → tracked ≤ room → (entry m tracked room u now).place.tracked ≤ room
-unfolding entry
-entry_held m tracked room u now p =
-    cond_entered (is_overflow u) _ _ room (λ e. p)
-    (cond_entered (ltb (find m.tags m.units (name_of u) tracked) tracked) _ _ room (λ e. p)
-    (cond_entered (ltb tracked room) _ _ room (λ e. omega (arith, ltb-true tracked room e)) p))
-
-judged_whole : (h : Shedder) (m : Rows) (u : Unit) (cost : List Float) (now : ℕ) → Whole h → now < 9007199254740992 → Whole (judged h m u cost now).head
+judged_kept : (h : Shedder) (m : Rows) (u : Unit) (cost : List Float) (now : ℕ) → Kept h m → now < 9007199254740992 → Kept (judged h m u cost now).head (judged h m u cost now).rows
 unfolding judged flowed
-judged_whole h m u cost now w p = record {
-  rates = w.rates;
-  clock = p;
-  at = w.at;
-  began = w.began;
-  read = w.read;
-  tables = w.tables;
-  units_least = w.units_least;
-  units_most = w.units_most;
-  counted_least = w.counted_least;
-  counted_most = w.counted_most;
-  tracked_held = entry_held m h.tracked h.unit_room u now w.tracked_held;
-  counted_held = w.counted_held;
-}
+judged_kept h m u cost now k p =
+    let w = k.head in
+    let f = fit_entry m h.tracked h.unit_room u now k.rows in
+    let e = entry m h.tracked h.unit_room u now in
+    record {
+      head = record {
+        rates = w.rates;
+        clock = p;
+        at = w.at;
+        began = w.began;
+        read = w.read;
+        tables = w.tables;
+        units_least = w.units_least;
+        units_most = w.units_most;
+        counted_least = w.counted_least;
+        counted_most = w.counted_most;
+        tracked_held = f.used;
+        counted_held = w.counted_held;
+      };
+      rows = fit_back e.rows h.overflow e.place.tracked h.unit_room e.place.at (outcome_at h u cost now e).used f;
+    }
 
-handed_whole : (h : Shedder) (m : Rows) (u : Unit) (cost : List Float) → Whole h → Whole (handed_back (kept_by h m) u cost).head
+handed_kept : (h : Shedder) (m : Rows) (u : Unit) (cost : List Float) → Kept h m → Kept (handed_back (kept_by h m) u cost).head (handed_back (kept_by h m) u cost).rows
 unfolding handed_back flowed_back
-handed_whole h m u cost w = record {
-  rates = w.rates;
-  clock = w.clock;
-  at = w.at;
-  began = w.began;
-  read = w.read;
-  tables = w.tables;
-  units_least = w.units_least;
-  units_most = w.units_most;
-  counted_least = w.counted_least;
-  counted_most = w.counted_most;
-  tracked_held = entry_held m h.tracked h.unit_room u h.flow.at_ms w.tracked_held;
-  counted_held = w.counted_held;
-}
+handed_kept h m u cost k =
+    let w = k.head in
+    let f = fit_entry m h.tracked h.unit_room u h.flow.at_ms k.rows in
+    let e = entry m h.tracked h.unit_room u h.flow.at_ms in
+    record {
+      head = record {
+        rates = w.rates;
+        clock = w.clock;
+        at = w.at;
+        began = w.began;
+        read = w.read;
+        tables = w.tables;
+        units_least = w.units_least;
+        units_most = w.units_most;
+        counted_least = w.counted_least;
+        counted_most = w.counted_most;
+        tracked_held = f.used;
+        counted_held = w.counted_held;
+      };
+      rows = fit_back e.rows h.overflow e.place.tracked h.unit_room e.place.at (flow.handed_back (used_at e.rows h.overflow e.place.at) cost) f;
+    }
 
 -- ---- the counts: a row is left free
 sources_all : (b : Bool) (x y : Sources) (P : Sources → Type 0) → (b ≡ true → P x) → (b ≡ false → P y) → P (cond b x y)
@@ -129,13 +135,33 @@ tallied_whole h i k n cause receptions w e = record {
       (count_length (source_tags (tally h i k)) k h.counted n cause ∙ e) w.counted_least;
 }
 
-cond_tally : (b : Bool) (x y : Tally) → Whole x.head → Whole y.head → Whole (cond b x y).head
-cond_tally true x y p q = p
-cond_tally false x y p q = q
+-- the tags of the unit records stay in front
+tallied_tags : (h : Shedder) (i : List ℕ) (k : List (List ℕ)) (n : Name) (cause receptions : ℕ) → h.unit_room ≤ length i → h.unit_room ≤ length (tallied (tally h i k) n cause receptions).tags
+unfolding tallied
+tallied_tags h i k n cause receptions l =
+    omega (arith, length-append (take h.unit_room i) (counts.pruned_tags (counts.count (drop h.unit_room i) k h.counted n cause) (counts.count_tags (drop h.unit_room i) k h.counted n)), length-take-le h.unit_room i l)
 
-counted_whole : (h : Shedder) (i : List ℕ) (k : List (List ℕ)) (n : Name) (v : Verdict) (cost : List ℕ) → Whole h → length k ≡ h.counted_room → Whole (count_verdict (tally h i k) n v cost).head
+-- with the lists of records, whose tags those of the tally are
+abbrev Told : Rows → Tally → Type 0
+Told m t = Kept t.head (with_tags m t.tags)
+
+tallied_kept : (h : Shedder) (m : Rows) (k : List (List ℕ)) (n : Name) (cause receptions : ℕ) → Kept h m → length k ≡ h.counted_room → Told m (tallied (tally h m.tags k) n cause receptions)
+tallied_kept h m k n cause receptions w e = record { head = tallied_whole h m.tags k n cause receptions w.head e; rows = rows }
+  where
+    long : h.unit_room ≤ length m.tags
+    long = let u = w.rows in let z = u.sized in omega (arith, u.units, z.tags)
+
+    rows : Fit (with_tags m (tallied (tally h m.tags k) n cause receptions).tags) (tallied (tally h m.tags k) n cause receptions).head.tracked (tallied (tally h m.tags k) n cause receptions).head.unit_room
+    rows = unfold tallied added in fit_tags m _ h.tracked h.unit_room w.rows (tallied_tags h m.tags k n cause receptions long)
+
+cond_tally : (m : Rows) (b : Bool) (x y : Tally) → Told m x → Told m y → Told m (cond b x y)
+cond_tally m true x y p q = p
+cond_tally m false x y p q = q
+
+counted_kept : (h : Shedder) (m : Rows) (k : List (List ℕ)) (n : Name) (v : Verdict) (cost : List ℕ) → Kept h m → length k ≡ h.counted_room → Told m (count_verdict (tally h m.tags k) n v cost)
 unfolding count_verdict
-counted_whole h i k n v cost w e = cond_tally (is_admitted v) (tally h i k) (tallied (tally h i k) n (cause_of v) (get_or cost 0 0)) w (tallied_whole h i k n (cause_of v) (get_or cost 0 0) w e)
+counted_kept h m k n v cost w e =
+    cond_tally m (is_admitted v) (tally h m.tags k) (tallied (tally h m.tags k) n (cause_of v) (get_or cost 0 0)) w (tallied_kept h m k n (cause_of v) (get_or cost 0 0) w e)
 
 -- ---- a judgement
 judged_room : (h : Shedder) (m : Rows) (u : Unit) (cost : List Float) (now : ℕ) → (judged h m u cost now).head.counted_room ≡ h.counted_room
@@ -145,52 +171,66 @@ judged_room h m u cost now = refl
 latest : (a b : ℕ) → a < 9007199254740992 → b < 9007199254740992 → max a b < 9007199254740992
 latest a b p q = omega (arith, p, q)
 
-bounded_whole : (h : Shedder) (m : Memory) (u : Unit) (cost : List ℕ) (stamp : ℕ) → Whole h → stamp < 9007199254740992 → length m.counted ≡ h.counted_room → Whole (bounded h m u cost stamp).head
+-- what the questions show, as it is kept
+kept_of : (h : Shedder) (m : Rows) (k : List (List ℕ)) → Long m → whole_with h m.offsets ≡ true → CutReady h (sizes_of m k) m.offsets → Kept h m
+kept_of h m k l e w =
+    let x = with_of h m.offsets e in
+    record {
+      head = whole_of h x.head;
+      rows = record { sized = sized_of h m k w; units = w.units_room; used = w.tracked_held; long = l; whole = x.parts };
+    }
+
+kept_with : (h : Shedder) (m : Rows) → Kept h m → whole_with h m.offsets ≡ true
+kept_with h m w = with_is h m.offsets (whole_is h w.head) (let f = w.rows in f.whole)
+
+bounded_kept : (h : Shedder) (m : Memory) (u : Unit) (cost : List ℕ) (stamp : ℕ) → Kept h m.rows → stamp < 9007199254740992 → length m.counted ≡ h.counted_room → judged_whole (bounded h m u cost stamp)
 unfolding bounded
-bounded_whole h m u cost stamp w p e =
+bounded_kept h m u cost stamp w p e =
     let clock = max stamp h.flow.at_ms in
-    let held : clock < 9007199254740992 = latest stamp h.flow.at_ms p w.clock in
+    let g = w.head in
+    let held : clock < 9007199254740992 = latest stamp h.flow.at_ms p g.clock in
     let j = judged h m.rows u (numbers cost) clock in
     let t = count_verdict (tally j.head j.rows.tags m.counted) (name_of u) j.verdict cost in
-    scanned_whole (scanning t.head (with_tags j.rows t.tags) m.hist) clock
-    (counted_whole j.head j.rows.tags m.counted (name_of u) j.verdict cost (judged_whole h m.rows u (numbers cost) clock w held) (e ∙ sym (judged_room h m.rows u (numbers cost) clock))) held
+    kept_with _ _ (scanned_kept (scanning t.head (with_tags j.rows t.tags) m.hist) clock
+    (counted_kept j.head j.rows m.counted (name_of u) j.verdict cost (judged_kept h m.rows u (numbers cost) clock w held) (e ∙ sym (judged_room h m.rows u (numbers cost) clock))) held)
 
-cond_judged : (b : Bool) (x y : Judged) → (b ≡ true → head_whole x.head ≡ true) → head_whole y.head ≡ true → head_whole (cond b x y).head ≡ true
+cond_judged : (b : Bool) (x y : Judged) → (b ≡ true → judged_whole x) → judged_whole y → judged_whole (cond b x y)
 cond_judged true x y p q = p refl
 cond_judged false x y p q = q
 
-judge_keeps : (h : Shedder) (m : Memory) (u : Unit) (cost : List ℕ) (stamp : ℕ) → head_whole h ≡ true → head_whole (judge h m u cost stamp).head ≡ true
+judge_keeps : (h : Shedder) (m : Memory) (u : Unit) (cost : List ℕ) (stamp : ℕ) → Long m.rows → whole_with h m.rows.offsets ≡ true → judged_whole (judge h m u cost stamp)
 unfolding judge
-judge_keeps h m u cost stamp w =
-    let a = judge_asked h (sizes_of m.rows m.counted) cost stamp in
+judge_keeps h m u cost stamp l w =
+    let a = judge_asked h (sizes_of m.rows m.counted) m.rows.offsets cost stamp in
     cond_judged (eqb a 0) _ _ (λ e.
-    let r = asked_ready h (sizes_of m.rows m.counted) cost stamp (eqb-true a 0 e) in
+    let r = asked_ready h (sizes_of m.rows m.counted) m.rows.offsets cost stamp (eqb-true a 0 e) in
     cond_judged (is_unbounded h.flow.rate) _ _ (λ y. w)
-    (whole_is (bounded h m u cost stamp).head (bounded_whole h m u cost stamp (whole_of h w) r.stamp_held
-    (memory_counted h (sizes_of m.rows m.counted) (judge_memory h _ cost stamp (eqb-true a 0 e)))))) w
+    (bounded_kept h m u cost stamp (kept_of h m.rows m.counted l w r.cut) r.stamp_held
+    (memory_counted h (sizes_of m.rows m.counted) (judge_memory h _ m.rows.offsets cost stamp (eqb-true a 0 e))))) w
 
 -- ---- a cut
-after_whole : (s : KeptBy) (k : List (List ℕ)) (u : Unit) (c : Cause) (cost : List ℕ) → Whole s.head → length k ≡ s.head.counted_room → head_whole (cut_after k u c cost s).head ≡ true
+after_kept : (s : KeptBy) (k : List (List ℕ)) (u : Unit) (c : Cause) (cost : List ℕ) → Kept s.head s.rows → length k ≡ s.head.counted_room → cut_whole (cut_after k u c cost s)
 unfolding noted
-after_whole s k u c cost w e = whole_is (tallied (tally s.head s.rows.tags k) (name_of u) (index_of c) (get_or cost 0 0)).head (tallied_whole s.head s.rows.tags k (name_of u) (index_of c) (get_or cost 0 0) w e)
+after_kept s k u c cost w e = kept_with _ _ (tallied_kept s.head s.rows k (name_of u) (index_of c) (get_or cost 0 0) w e)
 
 handed_room : (h : Shedder) (m : Rows) (u : Unit) (cost : List Float) → (handed_back (kept_by h m) u cost).head.counted_room ≡ h.counted_room
 unfolding handed_back
 handed_room h m u cost = refl
 
-cond_cut : (b : Bool) (x y : Cut) → (b ≡ true → head_whole x.head ≡ true) → head_whole y.head ≡ true → head_whole (cond b x y).head ≡ true
+cond_cut : (b : Bool) (x y : Cut) → (b ≡ true → cut_whole x) → cut_whole y → cut_whole (cond b x y)
 cond_cut true x y p q = p refl
 cond_cut false x y p q = q
 
-cut_keeps : (h : Shedder) (m : Rows) (k : List (List ℕ)) (u : Unit) (c : Cause) (cost : List ℕ) → head_whole h ≡ true → head_whole (cut h m k u c cost).head ≡ true
+cut_keeps : (h : Shedder) (m : Rows) (k : List (List ℕ)) (u : Unit) (c : Cause) (cost : List ℕ) → Long m → whole_with h m.offsets ≡ true → cut_whole (cut h m k u c cost)
 unfolding cut
-cut_keeps h m k u c cost w =
-    let a = cut_asked h (sizes_of m k) cost in
+cut_keeps h m k u c cost l w =
+    let a = cut_asked h (sizes_of m k) m.offsets cost in
     cond_cut (eqb a 0) _ _ (λ e.
-    let room : length k ≡ h.counted_room = memory_counted h (sizes_of m k) (cut_memory h _ cost (eqb-true a 0 e)) in
+    let room : length k ≡ h.counted_room = memory_counted h (sizes_of m k) (cut_memory h _ m.offsets cost (eqb-true a 0 e)) in
+    let f = kept_of h m k l w (cut_ready h (sizes_of m k) m.offsets cost (eqb-true a 0 e)) in
     cond_cut (hands_back h.flow.rate c) _ _ (λ y.
-    (after_whole (handed_back (kept_by h m) u (numbers cost)) k u c cost (handed_whole h m u (numbers cost) (whole_of h w)) (room ∙ sym (handed_room h m u (numbers cost)))))
-    (after_whole (kept_by h m) k u c cost (whole_of h w) room)) w
+    (after_kept (handed_back (kept_by h m) u (numbers cost)) k u c cost (handed_kept h m u (numbers cost) f) (room ∙ sym (handed_room h m u (numbers cost)))))
+    (after_kept (kept_by h m) k u c cost f room)) w
 
 pub stays : Stays
 stays = record { start_whole = start_whole; start_keeps = start_keeps; judge_keeps = judge_keeps; cut_keeps = cut_keeps }

@@ -2,7 +2,7 @@
 use Rattle.std.specs.Prelude.{ℕ, ◌≡◌, true, List}
 use Rattle.sender.specs.declared.Unit as unit
 use Rattle.store.specs.Store.{Rows}
-use Rattle.store.specs.declared.lent.Sizes.{Sizes}
+use Rattle.store.specs.Held.{sizes_of}
 use Rattle.wants.specs.Wants.{Hist}
 use Rattle.head.specs.declared.Shedder.{Shedder}
 use Rattle.store.specs.declared.Cause.{Cause}
@@ -17,6 +17,6 @@ pub record InRange (h : Shedder) : Type 0 where
   pub levels : Levels h.level
 
 pub record Ranges : Type 0 where
-  pub start : (h : Shedder) (s : Sizes) (g : Hist) (rate ceiling : List ℕ) → start_asked rate s ≡ 0 → InRange (start h s g rate ceiling).head
+  pub start : (h : Shedder) (m : Rows) (k : List (List ℕ)) (g : Hist) (rate ceiling : List ℕ) → start_asked rate (sizes_of m k) ≡ 0 → InRange (start h m k g rate ceiling).head
   pub judge : (h : Shedder) (m : Memory) (u : unit.Unit) (cost : List ℕ) (stamp : ℕ) → head_whole h ≡ true → InRange h → InRange (judge h m u cost stamp).head
   pub cut : (h : Shedder) (m : Rows) (k : List (List ℕ)) (u : unit.Unit) (c : Cause) (cost : List ℕ) → InRange h → InRange (cut h m k u c cost).head

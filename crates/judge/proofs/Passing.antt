@@ -12,7 +12,8 @@ use Rattle.sender.specs.Sender.{hash_of}
 use Rattle.store.specs.Store.{Rows}
 use Rattle.head.specs.declared.Flow.{Flow}
 use Rattle.head.specs.declared.Shedder.{Shedder}
-use Rattle.store_entry.specs.Entering.{Place, Entered, entered, entry, used_at, Back, back, put_back, headed}
+use Rattle.store_entry.specs.Entering.{Place, Entered, entered, entry, used_at, Back, back, put_back}
+use Rattle.head.specs.Headed.{headed}
 use Rattle.judge.specs.Judging.{rank_at, outcome, outcome_at, rule, rule_at, flowed, Through, passing, judged_at, judged, ruled}
 
 -- what a judgement makes of the use and the rank at a place, from those that the code found

@@ -26,7 +26,8 @@ use Rattle.judge.specs.declared.Passed.{Passed}
 use Rattle.judge.specs.declared.Judgement.{Judgement}
 use Rattle.head.specs.Questions.{is_unbounded, judge_asked}
 use Rattle.scan.specs.Scanning.{Scanning, scanning, scanned}
-use Rattle.store_entry.specs.Entering.{Entered, entry, used_at, Back, put_back, headed}
+use Rattle.store_entry.specs.Entering.{Entered, entry, used_at, Back, put_back}
+use Rattle.head.specs.Headed.{headed}
 use Rattle.cut_counts.specs.Counting.{Tally, tally, count_verdict}
 
 -- what was admitted so far, and this cost
@@ -135,9 +136,9 @@ bounded h m u cost stamp = bounded_passed m u cost (max stamp h.flow.at_ms) (jud
 -- THE JUDGEMENT: the first question answered no gives its number and nothing changes; an unbounded relay admits, and nothing changes
 unfoldable pub judge : Shedder → Memory → unit.Unit → List ℕ → ℕ → Judged
 judge h m u cost stamp =
-    cond (eqb (judge_asked h (sizes_of m.rows m.counted) cost stamp) 0)
+    cond (eqb (judge_asked h (sizes_of m.rows m.counted) m.rows.offsets cost stamp) 0)
     (cond (is_unbounded h.flow.rate) (judge_ends (Ok verdict.Admitted) h m) (bounded h m u cost stamp))
-    (judge_ends (refused (judge_asked h (sizes_of m.rows m.counted) cost stamp)) h m)
+    (judge_ends (refused (judge_asked h (sizes_of m.rows m.counted) m.rows.offsets cost stamp)) h m)
 
 -- ---- THE RULE that decides it (document 02, K1): a refused judgement has none; an unbounded relay admits with a want of 0
 unfoldable pub bounded_ruling : Shedder → Rows → unit.Unit → List ℕ → ℕ → Option Rule
@@ -145,5 +146,5 @@ bounded_ruling h m u cost stamp = Some (ruled h m u (flow.numbers cost) (max sta
 
 unfoldable pub ruling : Shedder → Memory → unit.Unit → List ℕ → ℕ → Option Rule
 ruling h m u cost stamp =
-    cond (eqb (judge_asked h (sizes_of m.rows m.counted) cost stamp) 0)
+    cond (eqb (judge_asked h (sizes_of m.rows m.counted) m.rows.offsets cost stamp) 0)
     (cond (is_unbounded h.flow.rate) (Some (rule_kind.Admitted nothing)) (bounded_ruling h m.rows u cost stamp)) None

@@ -3,7 +3,9 @@
 
 ghost use Rattle.std.specs.Prelude.{◌≡◌, ℕ, ◌<◌, ◌≤◌, length};
 ghost use Rattle.std.specs.Option.{IfSome, unwrap_or};
-ghost use Rattle.store.specs.Held.{held, Room, SameSlices, lent_rows, lent_sizes, SameLent};
+ghost use Rattle.parts.specs.Held.{held, SameParts, Sized};
+ghost use Rattle.shifting.specs.Offsets.{Whole};
+ghost use Rattle.store.specs.Held.{lent_rows, lent_sizes, SameLent};
 ghost use Rattle.wants.specs.Held.{SameArrays};
 ghost use Rattle.head.specs.Answers as answers;
 ghost use Rattle.head.specs.Questions as asked;
@@ -13,8 +15,9 @@ ghost use Rattle.judge.specs.Lending.{lent_memory};
 
 use flow::{DIMS, Use};
 use head::{Flow, Refusal, Shedder};
+use parts::Parts;
 use sender::{Named, Unit};
-use store::{Lent, Records};
+use store::Lent;
 use verdict::{Outcome, Rule, Ruled, Verdict};
 use wants::Histogram;
 
@@ -99,27 +102,30 @@ pub struct Passed {
 // A judgement on the record that is found, added or overflow's.
 fn judged(
     head: Shedder,
-    records: &mut Records<'_>,
+    parts: &mut Parts<'_>,
     named: Named,
     cost: [f64; DIMS],
     clock: u64,
 ) -> Passed
-    requires records_room { Room records.old head.unit_room }
+    requires sizes { Sized (held parts.old) }
+    requires room { length parts.old.units.now ≡ head.unit_room }
     requires tracked_bound { head.tracked ≤ head.unit_room }
-    ensures uses_after { judging.passed result (held records.new)
-        ≡ judging.judged head (held records.old) named.unit cost clock }
+    requires whole { Whole parts.old.offsets.now head.tracked }
+    ensures rows_after { judging.passed result (held parts.new)
+        ≡ judging.judged head (held parts.old) named.unit cost clock }
+    ensures whole_after { Whole parts.new.offsets.now result.head.tracked }
     ensures tracked_bound_2 { result.head.tracked ≤ head.unit_room }
     ensures counted_value { result.head.counted ≡ head.counted }
     ensures unit_room_value { result.head.unit_room ≡ head.unit_room }
     ensures scan_value { result.head.scan ≡ head.scan }
-    ensures rule_value { result.rule ≡ judging.ruled head (held records.old) named.unit cost clock }
-    ensures slices { SameSlices records.old records.new }
+    ensures rule_value { result.rule ≡ judging.ruled head (held parts.old) named.unit cost clock }
+    ensures slices { SameParts parts.old parts.new }
 {
-    let p = store_entry::entry(records, head.tracked, named, clock);
-    let used = store_entry::used_at(records, head.overflow, p.at);
+    let p = store_entry::entry(parts, head.tracked, named, clock);
+    let used = store_entry::used_at(parts, head.overflow, p.at);
     let rank = rank_at(named.hash, p.at);
     let r = ruled(head.flow, head.level, used, rank, cost, clock);
-    let overflow = store_entry::put_back(records, head.overflow, p.at, r.outcome.used);
+    let overflow = store_entry::put_back(parts, head.overflow, p.at, r.outcome.used);
     let flow = flowed(head.flow, r.outcome, cost, clock);
     Passed {
         verdict: r.outcome.verdict,
@@ -142,7 +148,7 @@ fn bounded(
     cost: [u64; DIMS],
     stamp: u64,
 ) -> Judgement
-    requires { asked.Ready head (lent_sizes lent.old) stamp }
+    requires { asked.Ready head (lent_sizes lent.old) lent.old.offsets.now stamp }
     ensures memory_after { judging.judgement result (lent_memory lent.new histogram.new)
         ≡ judging.bounded head (lent_memory lent.old histogram.old) named.unit cost stamp }
     ensures answer_value { answers.judge_number result.answer ≡ 0 }
@@ -152,19 +158,25 @@ fn bounded(
 {
     let clock = flow::later(stamp, head.flow.at_ms);
     // Made here and again below: a method of `Lent` could not promise what the rows hold once they come back.
-    let mut records = Records {
+    let mut parts = Parts {
         tags: &mut *lent.tags,
+        slots: &mut *lent.slots,
+        offsets: &mut *lent.offsets,
+        free: &mut *lent.free,
         units: &mut *lent.units,
         uses: &mut *lent.uses,
     };
-    let p = judged(head, &mut records, named, flow::numbers(cost), clock);
+    let p = judged(head, &mut parts, named, flow::numbers(cost), clock);
     let t = cut_counts::count_verdict(p.head, lent, named, p.verdict, cost);
-    let mut records = Records {
+    let mut parts = Parts {
         tags: &mut *lent.tags,
+        slots: &mut *lent.slots,
+        offsets: &mut *lent.offsets,
+        free: &mut *lent.free,
         units: &mut *lent.units,
         uses: &mut *lent.uses,
     };
-    let s = scan::scanned(t, &mut records, histogram, clock);
+    let s = scan::scanned(t, &mut parts, histogram, clock);
     Judgement {
         answer: Ok(p.verdict),
         ruling: Some(p.rule),
@@ -185,13 +197,13 @@ pub fn judge(
         (judging.judgement result (lent_memory lent.new histogram.new))
         (judging.judge head (lent_memory lent.old histogram.old) unit cost stamp) }
     ensures answer_value { answers.judge_number result.answer
-        ≡ asked.judge_asked head (lent_sizes lent.old) cost stamp }
+        ≡ asked.judge_asked head (lent_sizes lent.old) lent.old.offsets.now cost stamp }
     ensures same_but_nan_bits_2 { SameButNanBits result.ruling
         (judging.ruling head (lent_memory lent.old histogram.old) unit cost stamp) }
     ensures slices { SameLent lent.old lent.new }
     ensures arrays { SameArrays histogram.old histogram.new }
 {
-    if let Err(refusal) = head::judge_asked(head, lent.sizes(), cost, stamp) {
+    if let Err(refusal) = head::judge_asked(head, lent.sizes(), lent.offsets, cost, stamp) {
         return Judgement {
             answer: Err(refusal),
             ruling: None,

@@ -35,7 +35,7 @@ start_is : (h : Shedder) (m : Memory) (rate ceiling : List ℕ) → page.start (
 unfolding page.start page.opened starts.start starts.opening starts.buckets starts.first_levels asked.start_asked
 start_is h m rate ceiling = rw (rates_is rate, sizes_is (of h m)) (go (asked.rates_whole rate) (asked.sizes_whole (sizes_of m.rows m.counted)) _)
   where
-    go : (a b : Bool) (x : starts.Beginning) → ask ((1, a) ∷ (2, b) ∷ []) (λ n. after (refused n) (of h m)) (started m x) ≡ started m (cond (eqb (cond a (cond b 0 2) 1) 0) x (starts.start_ends (refused (cond a (cond b 0 2) 1)) h m.hist))
+    go : (a b : Bool) (x : starts.Beginning) → ask ((1, a) ∷ (2, b) ∷ []) (λ n. after (refused n) (of h m)) (started m x) ≡ started m (cond (eqb (cond a (cond b 0 2) 1) 0) x (starts.start_ends (refused (cond a (cond b 0 2) 1)) h m.rows m.hist))
     go true true x = refl
     go true false x = refl
     go false b x = refl
@@ -45,8 +45,8 @@ judge_is : (h : Shedder) (m : Memory) (u : Unit) (cost : List ℕ) (stamp : ℕ)
 unfolding page.judge page.judge_asks judging.judge asked.judge_asked
 judge_is h m u cost stamp =
     let s = of h m in
-    rw (head_is h, memory_is s, costs_is cost, stamp_is stamp, unbounded_is h.flow.rate, bounded_is h m u cost stamp)
-    (go (asked.head_whole h) (memory_whole h m) (asked.costs_held cost) (asked.is_stamp stamp) (asked.is_unbounded h.flow.rate) (judging.bounded h m u cost stamp))
+    rw (head_is h m.rows.offsets, memory_is s, costs_is cost, stamp_is stamp, unbounded_is h.flow.rate, bounded_is h m u cost stamp)
+    (go (asked.whole_with h m.rows.offsets) (memory_whole h m) (asked.costs_held cost) (asked.is_stamp stamp) (asked.is_unbounded h.flow.rate) (judging.bounded h m u cost stamp))
   where
     go : (a b c d e : Bool) (x : judging.Judged) → ask ((3, a) ∷ (4, b) ∷ (5, c) ∷ (6, d) ∷ []) (λ n. after (refused n) (of h m)) (cond e (after (Ok verdict.Admitted) (of h m)) (judged x))
         ≡ judged (cond (eqb (cond a (cond b (cond c (cond d 0 6) 5) 4) 3) 0) (cond e (judge_ends (Ok verdict.Admitted) h m) x) (judge_ends (refused (cond a (cond b (cond c (cond d 0 6) 5) 4) 3)) h m))
@@ -62,8 +62,8 @@ cut_is : (h : Shedder) (m : Memory) (u : Unit) (c : Cause) (cost : List ℕ) →
 unfolding page.cut cutting.cut cutting.noted asked.cut_asked
 cut_is h m u c cost =
     let s = of h m in
-    rw (head_is h, memory_is s, costs_is cost, unbounded_is h.flow.rate, hands_is h.flow.rate c, handed_is s u (numbers cost))
-    (go (asked.head_whole h) (memory_whole h m) (asked.costs_held cost) (cutting.hands_back h.flow.rate c))
+    rw (head_is h m.rows.offsets, memory_is s, costs_is cost, unbounded_is h.flow.rate, hands_is h.flow.rate c, handed_is s u (numbers cost))
+    (go (asked.whole_with h m.rows.offsets) (memory_whole h m) (asked.costs_held cost) (cutting.hands_back h.flow.rate c))
   where
     back : cutting.KeptBy
     back = cutting.handed_back (cutting.kept_by h m.rows) u (numbers cost)
@@ -111,11 +111,11 @@ module _ (h : Shedder) (m : Memory) (out : List ℕ) where
 
   report_is : reports.ends (page.report (of h m) out).answer (page.report (of h m) out).out ≡ report_with h m out
   unfolding page.report page.report_asks reports.report reports.report_asked lines answered asks
-  report_is = rw (head_is h, memory_is (of h m)) (ends_is (asked.head_whole h) (memory_whole h m) (leb (length lines) (length out)))
+  report_is = rw (head_is h m.rows.offsets, memory_is (of h m)) (ends_is (asked.whole_with h m.rows.offsets) (memory_whole h m) (leb (length lines) (length out)))
 
   front_is : (page.report (of h m) out).front ≡ front_with h m (length out)
   unfolding page.report page.report_asks reports.front reports.report_asked lines answered asks
-  front_is = rw (head_is h, memory_is (of h m)) (front_of (asked.head_whole h) (memory_whole h m) (leb (length lines) (length out)))
+  front_is = rw (head_is h m.rows.offsets, memory_is (of h m)) (front_of (asked.whole_with h m.rows.offsets) (memory_whole h m) (leb (length lines) (length out)))
 
   refusal_of : (a b c : Bool) → ask ((3, a) ∷ (4, b) ∷ (7, c) ∷ []) (λ n. n) 0 ≡ asks a b c
   unfolding asks
@@ -126,27 +126,27 @@ module _ (h : Shedder) (m : Memory) (out : List ℕ) where
 
   refusal_is : page.report_refusal (of h m) out ≡ asked_with h m (length out)
   unfolding page.report_refusal page.report_asks reports.report_asked asks
-  refusal_is = rw (head_is h, memory_is (of h m)) (refusal_of (asked.head_whole h) (memory_whole h m) (leb (length (page.lines (of h m))) (length out)))
+  refusal_is = rw (head_is h m.rows.offsets, memory_is (of h m)) (refusal_of (asked.whole_with h m.rows.offsets) (memory_whole h m) (leb (length (page.lines (of h m))) (length out)))
 
 -- ---- readings
-module _ (h : Shedder) where
-  visited_is : page.visited h ≡ readings.visited h
+module _ (h : Shedder) (os : List ℕ) where
+  visited_is : page.visited h os ≡ readings.visited h os
   unfolding page.visited readings.visited refusal_by
   visited_is = simp head_is
 
-  batches_is : (c : Cause) → page.cut_batches h c ≡ readings.cut_batches h c
+  batches_is : (c : Cause) → page.cut_batches h os c ≡ readings.cut_batches h os c
   unfolding page.cut_batches readings.cut_batches refusal_by
   batches_is c = simp head_is
 
-  level_is : (d : Dim) → page.level h d ≡ readings.level_read h d
+  level_is : (d : Dim) → page.level h os d ≡ readings.level_read h os d
   unfolding page.level readings.level_read refusal_by
   level_is d = simp head_is
 
-  rate_is : (d : Dim) → page.rate h d ≡ readings.rate_read h d
+  rate_is : (d : Dim) → page.rate h os d ≡ readings.rate_read h os d
   unfolding page.rate readings.rate_read refusal_by
   rate_is d = simp (head_is, unbounded_is)
 
-  bounded_reads : page.is_bounded h ≡ readings.is_bounded h
+  bounded_reads : page.is_bounded h os ≡ readings.is_bounded h os
   unfolding page.is_bounded readings.is_bounded refusal_by
   bounded_reads = simp (head_is, unbounded_is)
 

@@ -2,12 +2,14 @@
 use mathlib.Core.Path.{◌≡◌, refl}
 use mathlib.Core.Bool.{Bool, true, false, cond, not, ◌&&◌}
 use mathlib.Core.List.{List}
-use Prim.Native.Nat.{ℕ}
+use Prim.Native.Nat.{ℕ, zero, suc, ◌+◌}
 use native.Mathlib.Omega.{arith}
 use native.Mathlib.Decide.{dec_le}
-use lib.Dec.{eqb, leb, ltb, leb-zero}
-use lib.ListN.{length}
-use borrow.Author.Tests.{lt-ltb, le-ltb, le-leb, lt-leb, eqb-true}
+use lib.Dec.{leb, ltb, leb-zero}
+use lib.ListN.{length, get_or}
+use borrow.Author.Tests.{lt-ltb, le-ltb, le-leb, lt-leb}
+use Rattle.flow.specs.Flow.{all}
+use Rattle.shifting.specs.Offsets.{rising, is_whole}
 use Rattle.store.specs.Held.{sizes_of}
 use Rattle.head.specs.Questions as asked
 use Rattle.meaning.specs.State.{State, Shedder}
@@ -40,25 +42,23 @@ pub costs_is : (cost : List ℕ) → page.costs_held cost ≡ asked.costs_held c
 unfolding page.costs_held asked.costs_held
 costs_is cost = refl
 
-pub head_is : (h : Shedder) → page.head_whole h ≡ asked.head_whole h
-unfolding page.head_whole page.rooms_whole asked.head_whole asked.stamps_whole asked.tables_whole asked.rooms_whole
-head_is h = simp (rates_is, stamp_is, below_is, and_assoc)
+rising_is : (os : List ℕ) (n : ℕ) → all (λ t. leb (get_or os t 0) (get_or os (t + 1) 0)) n ≡ rising os n
+unfolding all rising
+rising_is os zero = refl
+rising_is os (suc n) = rw (rising_is os n) refl
+
+offsets_is : (os : List ℕ) (n : ℕ) → page.offsets_whole os n ≡ is_whole os n
+unfolding page.offsets_whole is_whole
+offsets_is os n = rw (rising_is os 64) refl
+
+pub head_is : (h : Shedder) (os : List ℕ) → page.head_whole h os ≡ asked.whole_with h os
+unfolding page.head_whole page.rooms_whole asked.whole_with asked.head_whole asked.stamps_whole asked.tables_whole asked.rooms_whole
+head_is h os = simp (rates_is, stamp_is, below_is, offsets_is, and_assoc)
 
 -- ---- the memory
-same_room : (a b r : ℕ) (x : Bool) → (eqb b a && (eqb a r && x)) ≡ (eqb a r && (eqb b r && x))
-same_room a b r x = go (eqb a r) refl
-  where
-    go : (t : Bool) → eqb a r ≡ t → (eqb b a && (eqb a r && x)) ≡ (eqb a r && (eqb b r && x))
-    go true e = rw e (rw (eqb-true a r e) refl)
-    go false e = rw e (none (eqb b a))
-      where
-        none : (t : Bool) → (t && false) ≡ false
-        none true = refl
-        none false = refl
-
 pub memory_is : (s : State) → page.memory_whole s ≡ asked.memory_whole s.head (sizes_of s.rows s.counted)
-unfolding page.memory_whole page.records_whole asked.memory_whole asked.tags_whole
-memory_is s = simp (and_assoc, same_room)
+unfolding page.memory_whole page.records_whole asked.memory_whole asked.tags_whole asked.slots_whole
+memory_is s = simp and_assoc
 
 kept_one : (c : ℕ) → (leb 2 c && (leb c 4097 && ltb 0 c)) ≡ (leb 2 c && leb c 4097)
 kept_one c = elim (dec_le 2 c) [ yes h ↦ rw (lt-ltb 0 c (omega (arith, h)), le-leb 2 c h) (last (leb c 4097)) | no h ↦ rw (lt-leb 2 c (omega (arith, h))) refl ]
@@ -68,5 +68,5 @@ kept_one c = elim (dec_le 2 c) [ yes h ↦ rw (lt-ltb 0 c (omega (arith, h)), le
     last false = refl
 
 pub sizes_is : (s : State) → (page.records_whole s && page.rooms_whole (length s.rows.units) (length s.counted)) ≡ asked.sizes_whole (sizes_of s.rows s.counted)
-unfolding page.records_whole page.rooms_whole asked.sizes_whole asked.tags_whole asked.rooms_whole
+unfolding page.records_whole page.rooms_whole asked.sizes_whole asked.tags_whole asked.slots_whole asked.rooms_whole
 sizes_is s = simp (below_is, leb-zero, and_assoc, kept_one)

@@ -42,8 +42,8 @@ pub rule_is : (h : Shedder) (m : Memory) (u : Unit) (cost : List ℕ) (stamp : �
 unfolding page.judge_rule page.judge_asks page.clock_by judging.ruling judging.bounded_ruling asked.judge_asked
 rule_is h m u cost stamp =
     let s = of h m in
-    rw (head_is h, memory_is s, costs_is cost, stamp_is stamp, unbounded_is h.flow.rate, ruled_is s u (numbers cost) (max stamp h.flow.at_ms))
-    (go (asked.head_whole h) (memory_whole h m) (asked.costs_held cost) (asked.is_stamp stamp) _)
+    rw (head_is h m.rows.offsets, memory_is s, costs_is cost, stamp_is stamp, unbounded_is h.flow.rate, ruled_is s u (numbers cost) (max stamp h.flow.at_ms))
+    (go (asked.whole_with h m.rows.offsets) (memory_whole h m) (asked.costs_held cost) (asked.is_stamp stamp) _)
   where
     go : (a b c d : Bool) (x : Ruling) → ask ((3, a) ∷ (4, b) ∷ (5, c) ∷ (6, d) ∷ []) (λ n. None) x ≡ cond (eqb (cond a (cond b (cond c (cond d 0 6) 5) 4) 3) 0) x None
     go true true true true x = refl

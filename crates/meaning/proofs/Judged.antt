@@ -22,12 +22,11 @@ use Rattle.verdict.specs.declared.Verdict.TheVariants.{Admitted, OverShare, Rela
 use Rattle.sender.specs.declared.Unit.{Unit}
 use Rattle.sender.specs.declared.Name.{Name}
 use Rattle.sender.specs.Sender.{name_of, hash_of, is_overflow}
-use Rattle.store.specs.Store as store
 use Rattle.store.specs.Store.{with_tags}
 use Rattle.cut_sources.specs.Counted as counts
 use Rattle.head.specs.declared.Flow.{Flow}
 use Rattle.store_entry.specs.Entering as entering
-use Rattle.store_entry.specs.Entering.{headed}
+use Rattle.head.specs.Headed.{headed}
 use Rattle.cut_counts.specs.Counting as counting
 use Rattle.cut.specs.Cutting as cutting
 use Rattle.judge.specs.Judging as judging
@@ -40,7 +39,7 @@ entered s e = after e.place.at (with_rows (with_tracked s e.place.tracked) e.row
 
 pub entry-is : (s : State) (u : Unit) (now : ℕ) → page.entry s u now ≡ entered s (entering.entry s.rows s.head.tracked s.head.unit_room u now)
 unfolding page.entry entering.entry
-entry-is s u now = go (is_overflow u) (ltb (store.find s.rows.tags s.rows.units (name_of u) s.head.tracked) s.head.tracked) (ltb s.head.tracked s.head.unit_room) _ _ _ _
+entry-is s u now = go (is_overflow u) (ltb (entering.found_at s.rows s.head.unit_room (name_of u)) s.head.unit_room) (ltb s.head.tracked s.head.unit_room) _ _ _ _
   where
     go : (a b c : Bool) (w x y z : entering.Entered) → cond a (entered s w) (cond b (entered s x) (cond c (entered s y) (entered s z))) ≡ entered s (cond a w (cond b x (cond c y z)))
     go true b c w x y z = refl

@@ -80,7 +80,7 @@ cut_0 s x qs k = asked (λ (a : After Done). cut_number a.answer) (λ n. after (
 
 cut : (s : State) (u : Unit) (c : Cause) (cost : List ℕ) → among (cut_number (page.cut s u c cost).answer) (0 ∷ 3 ∷ 4 ∷ 5 ∷ []) ≡ true
 unfolding page.cut numbers_of held
-cut s u c cost = cut_0 s _ ((3, page.head_whole s.head) ∷ (4, page.memory_whole s) ∷ (5, page.costs_held cost) ∷ []) refl
+cut s u c cost = cut_0 s _ ((3, page.head_whole s.head s.rows.offsets) ∷ (4, page.memory_whole s) ∷ (5, page.costs_held cost) ∷ []) refl
 
 report : (s : State) (out : List ℕ) → among (written_number (page.report s out).answer) (0 ∷ 3 ∷ 4 ∷ 7 ∷ []) ≡ true
 unfolding page.report page.report_asks numbers_of held answer_number
@@ -94,31 +94,31 @@ unfolding page.report_refusal page.report_asks numbers_of held
 report_refusal s out = asked (λ (n : ℕ). n) (λ n. n) 0 (page.report_asks s out) (λ n p q. refl) refl refl
 
 -- ---- readings: question 3
-module _ (h : Shedder) where
+module _ (h : Shedder) (os : List ℕ) where
   whole : List (ℕ × Bool)
-  whole = (3, page.head_whole h) ∷ []
+  whole = (3, page.head_whole h os) ∷ []
 
   read : {A : Type 0} (x : A) → among (answer_number (ask whole refused (Ok x))) (0 ∷ 3 ∷ []) ≡ true
   unfolding answer_number numbers_of held whole
   read {A = A} x = asked answer_number refused (Ok x) whole (refused_number A) refl refl
 
-  visited : among (reading_number (page.visited h)) (0 ∷ 3 ∷ []) ≡ true
+  visited : among (reading_number (page.visited h os)) (0 ∷ 3 ∷ []) ≡ true
   unfolding page.visited whole
   visited = read h.visits
 
-  cut_batches : (c : Cause) → among (reading_number (page.cut_batches h c)) (0 ∷ 3 ∷ []) ≡ true
+  cut_batches : (c : Cause) → among (reading_number (page.cut_batches h os c)) (0 ∷ 3 ∷ []) ≡ true
   unfolding page.cut_batches whole
   cut_batches c = read (h.batches # index_of c)
 
-  level : (d : Dim) → among (level_number (page.level h d)) (0 ∷ 3 ∷ []) ≡ true
+  level : (d : Dim) → among (level_number (page.level h os d)) (0 ∷ 3 ∷ []) ≡ true
   unfolding page.level whole
   level d = read (h.level ! dim_of d)
 
-  rate : (d : Dim) → among (rate_number (page.rate h d)) (0 ∷ 3 ∷ []) ≡ true
+  rate : (d : Dim) → among (rate_number (page.rate h os d)) (0 ∷ 3 ∷ []) ≡ true
   unfolding page.rate whole
   rate d = read (cond (page.is_unbounded h.flow.rate) None (Some (h.flow.rate # dim_of d)))
 
-  is_bounded : among (bounded_number (page.is_bounded h)) (0 ∷ 3 ∷ []) ≡ true
+  is_bounded : among (bounded_number (page.is_bounded h os)) (0 ∷ 3 ∷ []) ≡ true
   unfolding page.is_bounded whole
   is_bounded = read (not (page.is_unbounded h.flow.rate))
 

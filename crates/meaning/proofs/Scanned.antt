@@ -12,7 +12,8 @@ use Rattle.flow.specs.Flow.{is_fresh}
 use Rattle.flow.specs.declared.Use.{Use}
 use Rattle.wants.specs.Wants as wants
 use Rattle.wants.specs.Wants.{Hist}
-use Rattle.scan.specs.Walking as walking
+use Rattle.scan_visit.specs.Walking as walking
+use Rattle.scan_visit.specs.Visiting.{visit_with}
 use Rattle.scan_trim.specs.Trimming as trimming
 use Rattle.scan.specs.Scanning as scans
 use Rattle.meaning.specs.State.{State, with_head, with_hist}
@@ -56,7 +57,7 @@ overflow_is o table t g = go (eqb table 0) (is_fresh o.fresh)
     go false b = refl
 
 visit_is : (s : State) → page.visit s ≡ put s (scans.visit (of s))
-unfolding page.visit scans.visit scans.visited
+unfolding page.visit scans.visit scans.visited visit_with
 visit_is s = rw (overflow_is s.head.overflow s.head.scan.next s.head.scan.at_ms s.hist) refl
 
 -- ---- the end

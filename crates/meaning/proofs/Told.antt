@@ -103,7 +103,7 @@ ruled_by : (s : State) (u : Unit) (cost : List ℕ) (stamp : ℕ) (b : Bool) →
     → page.judge_rule s u cost stamp ≡ cond b (Some (rules.Admitted nothing)) (Some (page.ruled s u (numbers cost) (max stamp s.head.flow.at_ms)))
 unfolding page.judge page.judge_rule page.judge_asks page.clock_by
 ruled_by s u cost stamp b free e =
-    taken (page.head_whole s.head) (page.memory_whole s) (page.costs_held cost) (page.is_stamp stamp) s _ _ e
+    taken (page.head_whole s.head s.rows.offsets) (page.memory_whole s) (page.costs_held cost) (page.is_stamp stamp) s _ _ e
     ∙ ap (λ (b : Bool). cond b (Some (rules.Admitted nothing)) (Some (page.ruled s u (numbers cost) (max stamp s.head.flow.at_ms)))) free
 
 pub told : Told

@@ -1,7 +1,6 @@
 -- The page says what the contracts of the program say: each call's definition there, on head and memory, is the page's on the state of both. Statement only; proofs/Agrees proves it.
 use Rattle.std.specs.Prelude.{ℕ, ◌≡◌, List, length}
 use Rattle.wants.specs.Wants.{Hist}
-use Rattle.store.specs.Held.{sizes_of}
 use Rattle.head.specs.Start as starts
 use Rattle.head.specs.Readings as readings
 use Rattle.judge.specs.Judging as judging
@@ -16,7 +15,7 @@ of h m = record { head = h; rows = m.rows; hist = m.hist; counted = m.counted }
 
 -- what the contracts' definitions leave, as a state; what a call does not write stays
 abbrev pub started : Memory → starts.Beginning → After Begin
-started m b = after b.answer (record { head = b.head; rows = m.rows; hist = b.hist; counted = m.counted })
+started m b = after b.answer (record { head = b.head; rows = b.rows; hist = b.hist; counted = m.counted })
 
 abbrev pub judged : judging.Judged → After Answer
 judged j = after j.answer (of j.head j.memory)
@@ -25,7 +24,7 @@ abbrev pub cut : Hist → cutting.Cut → After Done
 cut g c = after c.answer (record { head = c.head; rows = c.rows; hist = g; counted = c.counted })
 
 abbrev pub start_with : Shedder → Memory → (rate ceiling : List ℕ) → starts.Beginning
-start_with h m rate ceiling = starts.start h (sizes_of m.rows m.counted) m.hist rate ceiling
+start_with h m rate ceiling = starts.start h m.rows m.counted m.hist rate ceiling
 
 abbrev pub report_with : Shedder → Memory → (out : List ℕ) → reports.Ends
 report_with h m out = reports.report h m.rows m.counted out
@@ -44,8 +43,8 @@ pub record Agrees : Type 0 where
   pub report_is : (h : Shedder) (m : Memory) (out : List ℕ) → reports.ends (page.report (of h m) out).answer (page.report (of h m) out).out ≡ report_with h m out
   pub front_is : (h : Shedder) (m : Memory) (out : List ℕ) → (page.report (of h m) out).front ≡ front_with h m (length out)
   pub refusal_is : (h : Shedder) (m : Memory) (out : List ℕ) → page.report_refusal (of h m) out ≡ asked_with h m (length out)
-  pub visited_is : (h : Shedder) → page.visited h ≡ readings.visited h
-  pub batches_is : (h : Shedder) (c : Cause) → page.cut_batches h c ≡ readings.cut_batches h c
-  pub level_is : (h : Shedder) (d : Dim) → page.level h d ≡ readings.level_read h d
-  pub rate_is : (h : Shedder) (d : Dim) → page.rate h d ≡ readings.rate_read h d
-  pub bounded_is : (h : Shedder) → page.is_bounded h ≡ readings.is_bounded h
+  pub visited_is : (h : Shedder) (os : List ℕ) → page.visited h os ≡ readings.visited h os
+  pub batches_is : (h : Shedder) (os : List ℕ) (c : Cause) → page.cut_batches h os c ≡ readings.cut_batches h os c
+  pub level_is : (h : Shedder) (os : List ℕ) (d : Dim) → page.level h os d ≡ readings.level_read h os d
+  pub rate_is : (h : Shedder) (os : List ℕ) (d : Dim) → page.rate h os d ≡ readings.rate_read h os d
+  pub bounded_is : (h : Shedder) (os : List ℕ) → page.is_bounded h os ≡ readings.is_bounded h os

@@ -1,12 +1,11 @@
 -- The record that a judgement or a cut uses names the unit: just found or just added, the unit is in its record, whatever bits the records hold.
 -- `judge` on a bounded relay is `judged`, then the count and the scan; a `cut` that hands back is `handed_back`, then the count. store_entry/specs/Own says in which
 -- cases the record is found, added or overflow's. Statements only; proofs/Named proves them.
-use Rattle.std.specs.Prelude.{ℕ, ◌<◌, ◌≡◌, true, false, List, ◌⊎◌, Float}
+use Rattle.std.specs.Prelude.{ℕ, ◌+◌, ◌<◌, ◌≤◌, ◌≡◌, true, false, List, ◌⊎◌, Float}
 use Rattle.flow.specs.Flow as flow
 use Rattle.sender.specs.Sender.{name_of, is_overflow, rank}
-use Rattle.store.specs.Store as store
-use Rattle.store.specs.Store.{rows, name_at, record_at}
-use Rattle.store_entry.specs.Own.{Has}
+use Rattle.parts.specs.Parts.{use_of}
+use Rattle.store_entry.specs.Own.{Has, Stays, name_at}
 use Rattle.meaning.specs.State.{State, Unit, Name, Use}
 use Rattle.meaning.specs.Page as page
 
@@ -19,23 +18,26 @@ place s u clock = (page.entry s u clock).answer
 
 -- the tag and the words of record i, and its use
 abbrev pub name_in : State → (i : ℕ) → Name
-name_in s i = name_at s.rows.tags s.rows.units i
+name_in s i = name_at s.rows i
 
 abbrev pub use_in : State → (i : ℕ) → Use
-use_in s i = store.use_at s.rows i
+use_in s i = use_of s.rows i
 
--- questions 3 and 4 are answered yes; the unit is not overflow; it has a record, or there is room for one
+-- questions 3 and 4 are answered yes; the unit is not overflow; it has a record in the part of its table, or there is room for one
 pub record Tracked (s : State) (u : Unit) : Type 0 where
-  pub head : page.head_whole s.head ≡ true
+  pub head : page.head_whole s.head s.rows.offsets ≡ true
   pub memory : page.memory_whole s ≡ true
   pub own : is_overflow u ≡ false
-  pub found_or_added : Has s.rows s.head.tracked (name_of u) ⊎ (s.head.tracked < s.head.unit_room)
+  pub found_or_added : Has s.rows u ⊎ (s.head.tracked < s.head.unit_room)
 
--- from s to t the one record used is the unit's: it has its name, its use is `next` of the use found there; every other record, and overflow's, is as in s
+-- from s to t the one record used is the unit's: it has its name, its use is `next` of the use found there; every other, and overflow's, is as in s. A record found leaves the others in their
+-- places; one added leaves those before it, and those behind it are one place up. A record that is as it was has its tag and its slot, and its rows where each slot is named once (`Stays`)
 pub record Uses (s : State) (u : Unit) (clock : ℕ) (next : Use → Use) (t : State) : Type 0 where
   pub named : name_in t (place s u clock) ≡ name_of u
   pub put_back : t.rows ≡ (page.put_back (entered s u clock) (place s u clock) (next (use_in (entered s u clock) (place s u clock)))).rows
-  pub others : (j : ℕ) → (j ≡ place s u clock → ⊥) → record_at t.rows j ≡ record_at s.rows j
+  pub others : Has s.rows u → (j : ℕ) → j < s.head.tracked → (j ≡ place s u clock → ⊥) → Stays s.rows t.rows s.head.tracked j j
+  pub before : (Has s.rows u → ⊥) → (j : ℕ) → j < place s u clock → Stays s.rows t.rows s.head.tracked j j
+  pub behind : (Has s.rows u → ⊥) → (j : ℕ) → place s u clock ≤ j → j < s.head.tracked → Stays s.rows t.rows s.head.tracked j (j + 1)
   pub overflow : t.head.overflow ≡ s.head.overflow
 
 pub record Named : Type 0 where

@@ -14,8 +14,8 @@ pub record Numbered : Type 0 where
   pub cut : (s : State) (u : Unit) (c : Cause) (cost : List ℕ) → among (cut_number (page.cut s u c cost).answer) (0 ∷ 3 ∷ 4 ∷ 5 ∷ []) ≡ true
   pub report : (s : State) (out : List ℕ) → among (written_number (page.report s out).answer) (0 ∷ 3 ∷ 4 ∷ 7 ∷ []) ≡ true
   pub report_refusal : (s : State) (out : List ℕ) → among (page.report_refusal s out) (0 ∷ 3 ∷ 4 ∷ 7 ∷ []) ≡ true
-  pub visited : (h : Shedder) → among (reading_number (page.visited h)) (0 ∷ 3 ∷ []) ≡ true
-  pub cut_batches : (h : Shedder) (c : Cause) → among (reading_number (page.cut_batches h c)) (0 ∷ 3 ∷ []) ≡ true
-  pub level : (h : Shedder) (d : Dim) → among (level_number (page.level h d)) (0 ∷ 3 ∷ []) ≡ true
-  pub rate : (h : Shedder) (d : Dim) → among (rate_number (page.rate h d)) (0 ∷ 3 ∷ []) ≡ true
-  pub is_bounded : (h : Shedder) → among (bounded_number (page.is_bounded h)) (0 ∷ 3 ∷ []) ≡ true
+  pub visited : (h : Shedder) (os : List ℕ) → among (reading_number (page.visited h os)) (0 ∷ 3 ∷ []) ≡ true
+  pub cut_batches : (h : Shedder) (os : List ℕ) (c : Cause) → among (reading_number (page.cut_batches h os c)) (0 ∷ 3 ∷ []) ≡ true
+  pub level : (h : Shedder) (os : List ℕ) (d : Dim) → among (level_number (page.level h os d)) (0 ∷ 3 ∷ []) ≡ true
+  pub rate : (h : Shedder) (os : List ℕ) (d : Dim) → among (rate_number (page.rate h os d)) (0 ∷ 3 ∷ []) ≡ true
+  pub is_bounded : (h : Shedder) (os : List ℕ) → among (bounded_number (page.is_bounded h os)) (0 ∷ 3 ∷ []) ≡ true

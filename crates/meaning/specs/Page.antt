@@ -1,7 +1,7 @@
 -- WHAT EACH CALL MEANS, on one page: a step on the state (specs/State), from the questions down to the answer. A heading names the section of document 01 where it has one.
--- What is cited from other pages: the hash, rank and name of a unit (sender), the fade (fade), finding and adding a record (store), dropping the stale (store_retain),
--- the wants of a table and the level of a histogram (scan, wants), the counted sources (cut_sources), the report's text (report_lines). specs/Agrees: the contracts of the program say the same.
-use Rattle.std.specs.Prelude.{ℕ, ◌+◌, ◌-◌, ◌/◌, ◌^◌, ◌%◌, min, max, Bool, cond, not, ◌&&◌, ◌||◌, List, [], ◌∷◌, ◌++◌, length, take, drop, Float, Some, None, Ok}
+-- What is cited from other pages: the hash, rank and name of a unit (sender), the fade (fade), finding and adding a record, dropping the stale (parts),
+-- the wants of a table and the level of a histogram (scan_visit, wants), the counted sources (cut_sources), the report's text (report_lines). specs/Agrees: the contracts of the program say the same.
+use Rattle.std.specs.Prelude.{ℕ, ◌+◌, ◌-◌, ◌/◌, ◌^◌, ◌%◌, min, max, unwrap_or, Bool, cond, not, ◌&&◌, ◌||◌, List, [], ◌∷◌, ◌++◌, length, take, drop, Float, Some, None, Ok}
 use Rattle.std.specs.Float.{binary64}
 use Rattle.std.specs.Float.Ieee.{of_bits}
 use Rattle.ieee.specs.Doubles.{◌⊕◌, ◌⊖◌, ◌⊗◌, ◌⊘◌, ◌⊴◌, ◌⊲◌, whole, nothing, one, half, thousand}
@@ -14,17 +14,17 @@ use Rattle.verdict.specs.declared.Side.TheVariants as sides
 use Rattle.verdict.specs.declared.Rule.TheVariants as rules
 use Rattle.verdict.specs.Rules.{lacking}
 use Rattle.sender.specs.declared.Unit.TheVariants as units
-use Rattle.sender.specs.Sender.{name_of, is_overflow, rank}
-use Rattle.store.specs.Store as store
+use Rattle.sender.specs.Sender.{name_of, is_overflow, rank, table_of_tag}
 use Rattle.store.specs.Store.{with_tags}
-use Rattle.store_retain.specs.Retain.{retained}
+use Rattle.parts.specs.Parts as records
 use Rattle.wants.specs.Wants as wants
 use Rattle.cut_sources.specs.Counted as counts
 use Rattle.cut_sources.specs.Sorted.{sorted}
 use Rattle.head.specs.Answers.{refused}
 use Rattle.head.specs.Readings.{index_of}
 use Rattle.cut_counts.specs.Counting.{added, cause_of}
-use Rattle.scan.specs.Walking.{walk_use, walk}
+use Rattle.scan_visit.specs.Walking.{walk_use}
+use Rattle.scan_visit.specs.Visiting.{walk_part}
 use Rattle.scan_trim.specs.Trimming.{is_finite}
 use Rattle.judge.specs.Judging.{answer_of}
 use Rattle.report_lines.specs.Lines.{text}
@@ -99,10 +99,12 @@ is_unbounded rate = all (λ d. rate # d =? «UNBOUNDED») dims
 unfoldable pub rates_whole : (rate : List ℕ) → Bool
 rates_whole rate = is_unbounded rate || all (λ d. 1 <=? rate # d && rate # d <=? RATE_MOST) dims
 
--- 2: the rooms. A unit record is a place of three lists, a counted record of two, its tag standing behind those of the unit records; so the lists fit each other, and there is room for
+-- 2: the rooms. A unit record is a place of five lists, a counted record of two, its tag standing behind those of the unit records; so the lists fit each other, and there is room for
 -- 1 to 131,072 unit records and 2 to 4,097 counted ones, of which one is spare
 unfoldable pub records_whole : State → Bool
-records_whole s = length s.rows.tags =? length s.rows.units + length s.counted && length s.rows.uses =? length s.rows.units
+records_whole s =
+    let units = length s.rows.units in
+    length s.rows.tags =? units + length s.counted && length s.rows.slots =? units && length s.rows.free =? units && length s.rows.uses =? units
 
 unfoldable pub rooms_whole : (units counted : ℕ) → Bool
 rooms_whole units counted = 1 <=? units && units <=? UNITS_TRACKED && 2 <=? counted && counted <=? SOURCES_COUNTED + 1
@@ -111,14 +113,18 @@ rooms_whole units counted = 1 <=? units && units <=? UNITS_TRACKED && 2 <=? coun
 unfoldable pub is_stamp : ℕ → Bool
 is_stamp t = t <? STAMP_END
 
--- 3: the head. Rates as in 1, four stamps as in 6, a scan with its next of 64 tables, or none, rooms as in 2, no more records in use than there is room for
-unfoldable pub head_whole : Shedder → Bool
-head_whole h =
+-- the records lie table by table: a table's part begins at its offset and ends at the next. The offsets, lent beside the head, begin at 0, never fall and end at the number of records in use
+unfoldable pub offsets_whole : (offsets : List ℕ) (tracked : ℕ) → Bool
+offsets_whole offsets tracked = offsets # 0 =? 0 && offsets # «TABLES» =? tracked && all (λ t. offsets # t <=? offsets # (t + 1)) «TABLES»
+
+-- 3: the head. Rates as in 1, four stamps as in 6, a scan with its next of 64 tables, or none, rooms as in 2, no more records in use than there is room for, and their offsets
+unfoldable pub head_whole : Shedder → (offsets : List ℕ) → Bool
+head_whole h offsets =
     let stamps = is_stamp h.flow.at_ms && is_stamp h.scan.at_ms && is_stamp h.scan.began_ms && is_stamp h.scan.read_ms in
     let sum = h.scan.remaining + h.scan.next in
     let tables = h.scan.remaining <=? «TABLES» && h.scan.next <=? «TABLES» && (sum =? «TABLES» || sum =? 0) in
     let used = h.tracked <=? h.unit_room && h.counted <? h.counted_room in
-    rates_whole h.flow.rate && stamps && tables && rooms_whole h.unit_room h.counted_room && used
+    rates_whole h.flow.rate && stamps && tables && rooms_whole h.unit_room h.counted_room && used && offsets_whole offsets h.tracked
 
 -- 4: the memory lent has the rooms noted at the start
 unfoldable pub memory_whole : State → Bool
@@ -135,7 +141,7 @@ opened rate ceiling =
     let burst = most (most (whole rate) (whole (min ceiling RATE_MOST))) one in
     record { tokens = burst; burst = burst; rate_per_ms = whole rate ⊘ thousand }
 
--- the first level is the rate, at most 1e15; head and histogram are new, no record is written
+-- the first level is the rate, at most 1e15; head and histogram are new, every part is empty and every slot free; no record is written
 unfoldable pub start : State → (rate ceiling : List ℕ) → After Begin
 start s rate ceiling =
     let units = length s.rows.units in
@@ -145,26 +151,29 @@ start s rate ceiling =
     let flow : Flow = record { rate = rate; ceiling = ceiling; buckets = buckets; at_ms = 0; admitted = zeros } in
     ask ((1, rates_whole rate) ∷ (2, records_whole s && rooms_whole units counted) ∷ [])
     (λ n. after (refused n) s)
-    (after (Ok tt) (with_hist (with_head s (new_head flow level units counted)) wants.cleared))
+    (after (Ok tt) (with_hist (with_rows (with_head s (new_head flow level units counted)) (records.started s.rows)) wants.cleared))
 
 -- ==== The sender and its record (document 01: the verdict, `Use`)
--- the place of the record that a call uses: the unit's own, a new one where there is room, else overflow's, whose place is the room
+-- the place of the record that a call uses: the unit's own, sought in the part of its table; a new one at the end of that part where there is room, the records behind it going up a place; else
+-- overflow's, whose place is the room
 unfoldable pub entry : State → Unit → (clock : ℕ) → After ℕ
 entry s u clock =
     let room = s.head.unit_room in
     let tracked = s.head.tracked in
-    let found = store.find s.rows.tags s.rows.units (name_of u) tracked in
+    let name = name_of u in
+    let found = unwrap_or (records.find s.rows name) room in
+    let end = records.end s.rows (table_of_tag name.tag) in
     cond (is_overflow u) (after room s)
-    (cond (found <? tracked) (after found s)
-    (cond (tracked <? room) (after tracked (with_rows (with_tracked s (tracked + 1)) (store.added s.rows tracked (name_of u) (new_use clock))))
+    (cond (found <? room) (after found s)
+    (cond (tracked <? room) (after end (with_rows (with_tracked s (tracked + 1)) (records.added s.rows tracked name (new_use clock))))
     (after room s)))
 
 unfoldable pub used_at : State → (place : ℕ) → Use
-used_at s i = cond (i <? length s.rows.units) (store.use_at s.rows i) s.head.overflow
+used_at s i = cond (i <? length s.rows.units) (records.use_of s.rows i) s.head.overflow
 
 unfoldable pub put_back : State → (place : ℕ) → Use → State
 put_back s i u =
-    cond (i <? length s.rows.units) (with_rows s (store.put s.rows i u)) (with_overflow s u)
+    cond (i <? length s.rows.units) (with_rows s (records.put s.rows i u)) (with_overflow s u)
 
 -- ==== The verdict (document 01: the verdict, `Bucket`, `judged`)
 -- a want up to 1 is asked for credit, then for tokens; a larger one for both and for the reserve, and is over share where one lacks
@@ -274,7 +283,7 @@ begun s clock =
     let due = scan.remaining =? 0 && scan.began_ms + ACTIVE_MS / 4 <=? clock in
     cond due (with_hist (with_visit s (scan_at scan «TABLES» 0 clock clock) s.head.tracked s.head.visits) wants.cleared) s
 
--- one table at the scan's stamp: overflow's wants first at table 0, if it was judged; the records older than 8,000 ms are dropped; the wants of the others are added in order of arrival
+-- one table at the scan's stamp: overflow's wants first at table 0, if it was judged; of the records in the table's part those older than 8,000 ms are dropped; the wants of the others are added in order of arrival
 unfoldable pub visit : State → State
 visit s =
     let scan = s.head.scan in
@@ -282,10 +291,11 @@ visit s =
     let table = scan.next in
     let t = scan.at_ms in
     let first = cond (table =? 0 && not (is_fresh overflow.fresh)) (walk_use overflow t s.hist) s.hist in
-    let kept = retained s.rows table t s.head.tracked in
-    let hist = walk kept.rows table t kept.count first in
+    let rows = records.dropped s.rows s.head.tracked table t in
+    let left = records.left s.rows s.head.tracked table t in
+    let hist = walk_part rows table t first in
     let next = scan_at scan (scan.remaining - 1) (table + 1) t scan.began_ms in
-    with_hist (with_rows (with_visit s next kept.count ((s.head.visits + 1) % 2 ^ 64)) kept.rows) hist
+    with_hist (with_rows (with_visit s next left ((s.head.visits + 1) % 2 ^ 64)) rows) hist
 
 -- 1 where the level found is not finite; else the trim before times a step, 0.5 to 1; as before where no time passed or the gain is not above 0. A step would bring the rate admitted to the rate in 1 s, and is held to 0.95 to 1.05
 unfoldable pub trim_of : («open» trim rate gain span : Float) → Float
@@ -333,7 +343,7 @@ bounded s u cost stamp =
     after (answer_of j.answer) (scanned noted clock)
 
 unfoldable pub judge_asks : State → (cost : List ℕ) (stamp : ℕ) → List (ℕ × Bool)
-judge_asks s cost stamp = (3, head_whole s.head) ∷ (4, memory_whole s) ∷ (5, costs_held cost) ∷ (6, is_stamp stamp) ∷ []
+judge_asks s cost stamp = (3, head_whole s.head s.rows.offsets) ∷ (4, memory_whole s) ∷ (5, costs_held cost) ∷ (6, is_stamp stamp) ∷ []
 
 -- an unbounded relay admits, seeks no record and changes nothing
 unfoldable pub judge : State → Unit → (cost : List ℕ) (stamp : ℕ) → After Answer
@@ -371,7 +381,7 @@ unfoldable pub cut : State → Unit → Cause → (cost : List ℕ) → After Do
 cut s u c cost =
     let hands = not (is_unbounded s.head.flow.rate) && index_of c =? 0 in
     let back = cond hands (handed_back s u (numbers cost)) s in
-    ask ((3, head_whole s.head) ∷ (4, memory_whole s) ∷ (5, costs_held cost) ∷ [])
+    ask ((3, head_whole s.head s.rows.offsets) ∷ (4, memory_whole s) ∷ (5, costs_held cost) ∷ [])
     (λ n. after (refused n) s)
     (after (Ok tt) (counted back (name_of u) (index_of c) (cost # 0)))
 
@@ -387,7 +397,7 @@ abbrev pub lines : State → List ℕ
 lines s = text s.head (drop s.head.unit_room s.rows.tags) s.counted
 
 unfoldable pub report_asks : State → (out : List ℕ) → List (ℕ × Bool)
-report_asks s out = (3, head_whole s.head) ∷ (4, memory_whole s) ∷ (7, length (lines s) <=? length out) ∷ []
+report_asks s out = (3, head_whole s.head s.rows.offsets) ∷ (4, memory_whole s) ∷ (7, length (lines s) <=? length out) ∷ []
 
 unfoldable pub report : State → (out : List ℕ) → Reported
 report s out =
@@ -400,21 +410,21 @@ report s out =
 unfoldable pub report_refusal : State → (out : List ℕ) → ℕ
 report_refusal s out = ask (report_asks s out) (λ n. n) 0
 
--- ==== Readings: 3
-abbrev pub read : {A : Type 0} → Shedder → (ℕ → A) → A → A
-read h refused result = ask ((3, head_whole h) ∷ []) refused result
+-- ==== Readings: 3, of the head and the offsets lent beside it
+abbrev pub read : {A : Type 0} → Shedder → (offsets : List ℕ) → (ℕ → A) → A → A
+read h offsets refused result = ask ((3, head_whole h offsets) ∷ []) refused result
 
-unfoldable pub visited : Shedder → Reading
-visited h = read h refused (Ok h.visits)
+unfoldable pub visited : Shedder → (offsets : List ℕ) → Reading
+visited h offsets = read h offsets refused (Ok h.visits)
 
-unfoldable pub cut_batches : Shedder → Cause → Reading
-cut_batches h c = read h refused (Ok (h.batches # index_of c))
+unfoldable pub cut_batches : Shedder → (offsets : List ℕ) → Cause → Reading
+cut_batches h offsets c = read h offsets refused (Ok (h.batches # index_of c))
 
-unfoldable pub level : Shedder → Dim → LevelRead
-level h d = read h refused (Ok (h.level ! dim_of d))
+unfoldable pub level : Shedder → (offsets : List ℕ) → Dim → LevelRead
+level h offsets d = read h offsets refused (Ok (h.level ! dim_of d))
 
-unfoldable pub rate : Shedder → Dim → RateRead
-rate h d = read h refused (Ok (cond (is_unbounded h.flow.rate) None (Some (h.flow.rate # dim_of d))))
+unfoldable pub rate : Shedder → (offsets : List ℕ) → Dim → RateRead
+rate h offsets d = read h offsets refused (Ok (cond (is_unbounded h.flow.rate) None (Some (h.flow.rate # dim_of d))))
 
-unfoldable pub is_bounded : Shedder → BoundedRead
-is_bounded h = read h refused (Ok (not (is_unbounded h.flow.rate)))
+unfoldable pub is_bounded : Shedder → (offsets : List ℕ) → BoundedRead
+is_bounded h offsets = read h offsets refused (Ok (not (is_unbounded h.flow.rate)))

@@ -4,7 +4,7 @@ use Rattle.ieee.specs.Doubles.{◌⊘◌, nothing, one}
 use Rattle.flow.specs.Flow.{dims, upto, at, zeros, added}
 use Rattle.store.specs.Store.{Rows, rows}
 use Rattle.wants.specs.Wants.{Hist, hist}
-use Rattle.store_entry.specs.Entering.{headed}
+use Rattle.head.specs.Headed.{headed}
 use Rattle.scan_trim.specs.Trimming.{scan_then}
 -- the types that the program declares
 pub use Rattle.flow.specs.declared.Bucket.{Bucket}
@@ -49,7 +49,7 @@ RateRead = Result (Option ℕ) Refusal
 abbrev pub BoundedRead : Type 0
 BoundedRead = Result Bool Refusal
 
--- ---- the head, and the lent memory: the unit records, the histogram of wants, the counted records
+-- ---- the head, and the lent memory: the unit records as six lists, the histogram of wants, the counted records
 pub record State : Type 0 where
   pub head : Shedder
   pub rows : Rows
@@ -57,12 +57,12 @@ pub record State : Type 0 where
   pub counted : List (List ℕ)
 
 -- of a head and the lent lists
-abbrev pub state : Shedder → (tags : List ℕ) (units : List (List ℕ)) (uses : List (List Float)) (counts : List (List ℕ)) (sums : List (List Float)) (counted : List (List ℕ)) → State
-state h tags units uses counts sums counted = record { head = h; rows = rows tags units uses; hist = hist counts sums; counted = counted }
+abbrev pub state : Shedder → (tags slots offsets free : List ℕ) (units : List (List ℕ)) (uses : List (List Float)) (counts : List (List ℕ)) (sums : List (List Float)) (counted : List (List ℕ)) → State
+state h tags slots offsets free units uses counts sums counted = record { head = h; rows = rows tags slots offsets free units uses; hist = hist counts sums; counted = counted }
 
 -- where the histogram is not lent
-abbrev pub state_with : Hist → Shedder → (tags : List ℕ) (units : List (List ℕ)) (uses : List (List Float)) (counted : List (List ℕ)) → State
-state_with g h tags units uses counted = record { head = h; rows = rows tags units uses; hist = g; counted = counted }
+abbrev pub state_with : Hist → Shedder → (tags slots offsets free : List ℕ) (units : List (List ℕ)) (uses : List (List Float)) (counted : List (List ℕ)) → State
+state_with g h tags slots offsets free units uses counted = record { head = h; rows = rows tags slots offsets free units uses; hist = g; counted = counted }
 
 -- what a call or a step answers, and the state after it
 pub record After (A : Type 0) : Type 0 where

@@ -7,8 +7,7 @@ use lib.Dec.{ltb}
 use lib.ListN.{length, get_or, set, take, replicate, length-set, get_or-replicate}
 use lib.Seq.{take_all}
 use Rattle.flow.specs.declared.Use.{Use}
-use Rattle.store.specs.Store as store
-use Rattle.store.specs.Store.{unit_row}
+use Rattle.store.specs.Store.{unit_row, units_put, uses_put}
 use Rattle.shifting.specs.Shifting.{down}
 use Rattle.shifting.specs.Offsets.{Whole}
 use Rattle.shifting.proofs.Down.{down_long}
@@ -56,11 +55,11 @@ starts m z = record {
 -- ---- a use put
 module _ (s : Rows) (n k : ℕ) (u : Use) (w : Sound s n) where
   pub units_long : length (put s k u).units ≡ length s.units
-  unfolding put store.put
+  unfolding put units_put uses_put
   units_long = length-set s.units (slot_at s k) (set (set (unit_row s.units (slot_at s k)) 5 u.at_ms) 6 u.fresh)
 
   uses_long : length (put s k u).uses ≡ length s.uses
-  unfolding put store.put
+  unfolding put units_put uses_put
   uses_long = length-set s.uses (slot_at s k) (floats_of u)
 
   pub put_sound : Sound (put s k u) n

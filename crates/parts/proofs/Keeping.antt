@@ -118,7 +118,7 @@ module _ (table : ℕ → ℕ) (os ts : List ℕ) (n t : ℕ) (h : t < 64) (l : 
       ]
     ]
 
-length_squeezed : (p : ℕ → Bool) (xs : List ℕ) (a b n : ℕ) → a ≤ b → b ≤ n → n ≤ length xs → a + length (those p a (part xs a b)) ≤ b → length (squeezed p xs a b n) ≡ length xs
+pub length_squeezed : (p : ℕ → Bool) (xs : List ℕ) (a b n : ℕ) → a ≤ b → b ≤ n → n ≤ length xs → a + length (those p a (part xs a b)) ≤ b → length (squeezed p xs a b n) ≡ length xs
 unfolding squeezed
 length_squeezed p xs a b n h l m o =
     length_over xs a ((those p a (part xs a b) ++ part xs b n) ++ replicate (b - (a + length (those p a (part xs a b)))) 0)

@@ -8,8 +8,7 @@ use lib.Ieee.{Float}
 use lib.ListN.{length, get_or, set, take, length-set}
 use lib.Seq.{ext_get_or, get_or-take, length-take-le, get_or-set_same, get_or-set_other}
 use Rattle.flow.specs.declared.Use.{Use}
-use Rattle.store.specs.Store as store
-use Rattle.store.specs.Store.{Record, unit_row}
+use Rattle.store.specs.Store.{Record, unit_row, units_put, uses_put}
 use Rattle.parts.specs.Parts.{Rows, put, slot_of, slot_at, floats_of}
 use Rattle.parts.specs.Laws.{times, Sound, Every, record_at, listed, with_use}
 use Rattle.parts.proofs.Slots.{apart}
@@ -40,17 +39,17 @@ module _ (s : Rows) (n k : ℕ) (u : Use) (w : Sound s n) (l : k < n) where
       ]
 
   slot_same : (i : ℕ) → slot_at B i ≡ slot_at s i
-  unfolding put store.put
+  unfolding put units_put uses_put
   slot_same i = ap (λ (r : ℕ). slot_of (get_or s.slots i 0) r) (length-set s.units (slot_at s k) row)
 
-  other_at : (i : ℕ) → i < n → (i ≡ k → ⊥) → record_at B i ≡ record_at s i
-  unfolding record_at put store.put
+  pub other_at : (i : ℕ) → i < n → (i ≡ k → ⊥) → record_at B i ≡ record_at s i
+  unfolding record_at put units_put uses_put
   other_at i m c =
       same_record _ _ _ _ _ _ refl (ap (λ (r : ℕ). get_or (set s.units (slot_at s k) row) r []) (slot_same i) ∙ get_or-set_other s.units (slot_at s k) (slot_at s i) row [] (differ i m c))
       (ap (λ (r : ℕ). get_or (set s.uses (slot_at s k) used) r []) (slot_same i) ∙ get_or-set_other s.uses (slot_at s k) (slot_at s i) used [] (differ i m c))
 
   put_at : record_at B k ≡ with_use (record_at s k) u
-  unfolding record_at put store.put with_use
+  unfolding record_at put units_put uses_put with_use
   put_at =
       let v = slot_low s n w.once k l fits in
       same_record _ _ _ _ _ _ refl (ap (λ (r : ℕ). get_or (set s.units (slot_at s k) row) r []) (slot_same k) ∙ get_or-set_same s.units (slot_at s k) row [] v)

@@ -7,24 +7,11 @@ use Rattle.flow.specs.declared.Use.{Use}
 use Rattle.sender.specs.declared.Name.{Name}
 use Rattle.sender.specs.declared.Words.{Words}
 use Rattle.sender.specs.Sender.{table_of_tag}
-use Rattle.store.specs.Store as store
-use Rattle.store.specs.Store.{same, words_at, has_tag, stamp_at, use_at, joined, first}
+use Rattle.store.specs.Store.{same, words_at, has_tag, stamp_at, use_at, units_put, uses_put, joined, first}
+pub use Rattle.store.specs.Store.{Rows, rows}
 use Rattle.store.specs.Found.{found}
 use Rattle.shifting.specs.Shifting.{over, part, inserted, down}
 use Rattle.shifting.specs.Offsets.{from_on, «PARTS»}
-
--- the lent lists. The first entries of tags and slots are the index; the part of a table begins and ends at its offsets; the slots that
--- no entry names are the first of free, the next one last
-pub record Rows : Type 0 where
-  pub tags : List ℕ
-  pub slots : List ℕ
-  pub offsets : List ℕ
-  pub free : List ℕ
-  pub units : List (List ℕ)
-  pub uses : List (List Float)
-
-abbrev pub rows : List ℕ → List ℕ → List ℕ → List ℕ → List (List ℕ) → List (List Float) → Rows
-rows tags slots offsets free units uses = record { tags = tags; slots = slots; offsets = offsets; free = free; units = units; uses = uses }
 
 -- where the part of a table begins, and where it ends
 abbrev pub begin : Rows → ℕ → ℕ
@@ -42,7 +29,7 @@ slot_at m i = slot_of (get_or m.slots i 0) (length m.units)
 
 -- ---- a use
 unfoldable pub use_of : Rows → ℕ → Use
-use_of m i = use_at (store.rows m.tags m.units m.uses) (slot_at m i)
+use_of m i = use_at m.units m.uses (slot_at m i)
 
 unfoldable pub stamp_of : Rows → ℕ → ℕ
 stamp_of m i = stamp_at m.units (slot_at m i)
@@ -54,8 +41,8 @@ put m i u = record {
   slots = m.slots;
   offsets = m.offsets;
   free = m.free;
-  units = (store.put (store.rows m.tags m.units m.uses) (slot_at m i) u).units;
-  uses = (store.put (store.rows m.tags m.units m.uses) (slot_at m i) u).uses;
+  units = units_put m.units (slot_at m i) u;
+  uses = uses_put m.uses (slot_at m i) u;
 }
 
 -- ---- find

@@ -1,23 +1,22 @@
 // The unit records table by table, in lent memory: found, put in, dropped.
 #![tactic(auto)]
 
-ghost use Rattle.std.specs.Prelude.{◌≡◌, ◌<◌, ◌≤◌, ◌+◌, length, slice_index, IfSome};
+ghost use Rattle.std.specs.Prelude.{◌≡◌, ◌<◌, ◌≤◌, ◌+◌, ℕ, List, Float, length, get_or, slice_index, IfSome};
 ghost use Rattle.std.specs.List.{SameFrom};
 ghost use Rattle.parts.specs.Held.{held, Ready, SameParts, Sized};
 ghost use Rattle.parts.specs.Parts as parts;
+ghost use Rattle.parts.specs.Parts.{rows};
 ghost use Rattle.sender.specs.Sender.{table_of_tag};
 ghost use Rattle.shifting.specs.Offsets.{Whole, «PARTS»};
 ghost use Rattle.shifting.specs.Shifting.{down};
 
 mod drops;
-mod floats;
 
 pub use drops::RETAIN_MS;
-use floats::{joined, part};
 use flow::{DIMS, Use};
 use sender::{Name, Words};
 use shifting::PARTS;
-use store::{UnitRow, UseRow};
+use store::{UnitRow, UseRow, joined, part};
 
 // The unit records in lent memory, table by table in order of arrival. The order is that of an index, the first entries of `tags` and
 // `slots`; `offsets` says where each table's part of it begins, and where the last ends. A record's rows stay in its slot; `free` is the
@@ -105,6 +104,34 @@ fn find_within(
     Some(from + k)
 }
 
+// The unit's record in the part of its table, in lists that are only read.
+#[tactic(auto, unfolding(crate::specs::Parts::find))]
+pub fn find_in(
+    tags: &[u16],
+    slots: &[u32],
+    offsets: &[u32; PARTS + 1],
+    units: &[UnitRow],
+    name: Name,
+) -> Option<usize>
+    requires some { 0 < length units.now }
+    requires whole { Whole offsets.now (get_or offsets.now «PARTS» 0) }
+    requires tags_room { get_or offsets.now «PARTS» 0 ≤ length tags.now }
+    requires slots_room { get_or offsets.now «PARTS» 0 ≤ length slots.now }
+    ensures value { (free : List ℕ) (uses : List (List Float))
+        → result ≡ parts.find (rows tags.now slots.now offsets.now free units.now uses) name }
+    ensures upper_bound { IfSome result (λ i. i < slice_index offsets.now «PARTS») }
+{
+    let table = sender::table_of_tag(name.tag);
+    find_within(
+        tags,
+        slots,
+        units,
+        offsets[table] as usize,
+        offsets[table + 1] as usize,
+        name,
+    )
+}
+
 impl Parts<'_> {
     // The slot of the entry at i.
     fn slot_at(&self, i: usize) -> usize
@@ -117,22 +144,12 @@ impl Parts<'_> {
     }
 
     // The unit's record in the part of its table.
-    #[tactic(auto, unfolding(crate::specs::Parts::find))]
     pub fn find(&self, name: Name) -> Option<usize>
         requires ready { Ready (held self.now) }
         ensures value { result ≡ parts.find (held self.now) name }
         ensures upper_bound { IfSome result (λ i. i < slice_index self.now.offsets.now «PARTS») }
     {
-        let offsets = &*self.offsets;
-        let table = sender::table_of_tag(name.tag);
-        find_within(
-            self.tags,
-            self.slots,
-            self.units,
-            offsets[table] as usize,
-            offsets[table + 1] as usize,
-            name,
-        )
+        find_in(self.tags, self.slots, self.offsets, self.units, name)
     }
 
     // The use of the record at i.
@@ -161,7 +178,7 @@ impl Parts<'_> {
     }
 
     // The use put into the record at i; its unit stays.
-    #[tactic(auto, unfolding(crate::specs::Parts::put, store::specs::Store::put))]
+    #[tactic(auto, unfolding(crate::specs::Parts::put, store::specs::Store::units_put, store::specs::Store::uses_put))]
     pub fn put_use(&mut self, i: usize, used: Use)
         requires sizes { Sized (held self.old) }
         requires i_in_bounds { i < length self.old.slots.now }

@@ -16,7 +16,7 @@ use Rattle.flow.specs.Flow.{all}
 use Rattle.store.specs.Store.{Rows}
 use Rattle.store.specs.Held.{sizes_of}
 use Rattle.head.specs.declared.Shedder.{Shedder}
-use Rattle.head.specs.Questions.{head_whole, memory_whole, costs_held, cut_asked}
+use Rattle.head.specs.Questions.{whole_with, memory_whole, costs_held, cut_asked}
 use Rattle.head.proofs.Asked.{cut_ready}
 use Rattle.std.proofs.Common.{Result, Ok, Err}
 use Rattle.head.specs.declared.Refusal.{Refusal}
@@ -31,10 +31,10 @@ pub record Counts (h : Shedder) (m : Rows) (rows : List (List ℕ)) : Type 0 whe
   pub held : h.counted ≤ length rows
   pub behind : h.counted ≤ length (drop h.unit_room m.tags)
 
-pub counted_held : (h : Shedder) (m : Rows) (rows : List (List ℕ)) → head_whole h ≡ true → memory_whole h (sizes_of m rows) ≡ true → Counts h m rows
+pub counted_held : (h : Shedder) (m : Rows) (rows : List (List ℕ)) → whole_with h m.offsets ≡ true → memory_whole h (sizes_of m rows) ≡ true → Counts h m rows
 unfolding cut_asked costs_held all
 counted_held h m rows e f =
-    let w = cut_ready h (sizes_of m rows) [] (simp (e, f)) in
+    let w = cut_ready h (sizes_of m rows) m.offsets [] (simp (e, f)) in
     let r = w.tags_room in
     let c = w.counted_held in record {
       room = omega (arith, r, c);
@@ -75,11 +75,11 @@ ends_of false a b x out = refl
 module _ (h : Shedder) (m : Rows) (rows : List (List ℕ)) where
   module _ (room : ℕ) where
     -- ---- the number of the first question answered no
-    pub asked_head : head_whole h ≡ false → report_asked h m rows room ≡ 3
+    pub asked_head : whole_with h m.offsets ≡ false → report_asked h m rows room ≡ 3
     unfolding report_asked
     asked_head e = simp e
 
-    module _ (e : head_whole h ≡ true) where
+    module _ (e : whole_with h m.offsets ≡ true) where
       pub asked_memory : memory_whole h (sizes_of m rows) ≡ false → report_asked h m rows room ≡ 4
       unfolding report_asked
       asked_memory f = simp (e, f)
@@ -111,7 +111,7 @@ module _ (h : Shedder) (m : Rows) (rows : List (List ℕ)) where
     unfolding answer report_asked
     answer_number =
         choice_number (length (lines h m rows)) (report_asked h m rows room)
-        (asked_most (head_whole h) (memory_whole h (sizes_of m rows)) (leb (length (lines h m rows)) room))
+        (asked_most (whole_with h m.offsets) (memory_whole h (sizes_of m rows)) (leb (length (lines h m rows)) room))
 
     answer_bytes : bytes (answer h m rows room) ≡ length (front h m rows room)
     unfolding answer front
@@ -122,7 +122,7 @@ module _ (h : Shedder) (m : Rows) (rows : List (List ℕ)) where
     front_fits = by (eqb (report_asked h m rows room) 0) refl
       where
         by : (t : Bool) → eqb (report_asked h m rows room) 0 ≡ t → length (cond t (lines h m rows) []) ≤ room
-        by true e = fits_of (head_whole h) (memory_whole h (sizes_of m rows)) (length (lines h m rows)) room (eqb-true (report_asked h m rows room) 0 e)
+        by true e = fits_of (whole_with h m.offsets) (memory_whole h (sizes_of m rows)) (length (lines h m rows)) room (eqb-true (report_asked h m rows room) 0 e)
         by false e = omega arith
 
   -- ---- the answer and the buffer

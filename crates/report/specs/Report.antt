@@ -3,7 +3,7 @@ use Rattle.std.specs.Prelude.{ℕ, cond, List, [], ◌++◌, eqb, leb, length, d
 use Rattle.store.specs.Store.{Rows}
 use Rattle.store.specs.Held.{sizes_of}
 use Rattle.head.specs.declared.Shedder.{Shedder}
-use Rattle.head.specs.Questions.{head_whole, memory_whole}
+use Rattle.head.specs.Questions.{whole_with, memory_whole}
 use Rattle.head.specs.declared.Refusal.{Refusal}
 use Rattle.head.specs.Answers.{refused}
 use Rattle.report_lines.specs.Lines.{text}
@@ -18,9 +18,9 @@ abbrev pub lines : Shedder → Rows → List (List ℕ) → List ℕ
 lines h m counted = text h (drop h.unit_room m.tags) counted
 
 -- ---- the questions, by the unit records' lists, the counted rows and the length of the buffer
--- the number of the first answered no, else 0: 3 the head, 4 the memory, 7 the whole text fits the buffer
+-- the number of the first answered no, else 0: 3 the head with its offsets, 4 the memory, 7 the whole text fits the buffer
 unfoldable pub report_asked : Shedder → Rows → List (List ℕ) → ℕ → ℕ
-report_asked h m counted room = cond (head_whole h) (cond (memory_whole h (sizes_of m counted)) (cond (leb (length (lines h m counted)) room) 0 7) 4) 3
+report_asked h m counted room = cond (whole_with h m.offsets) (cond (memory_whole h (sizes_of m counted)) (cond (leb (length (lines h m counted)) room) 0 7) 4) 3
 
 -- ---- the answer and the buffer
 unfoldable pub answer : Shedder → Rows → List (List ℕ) → ℕ → Result ℕ Refusal

@@ -39,7 +39,7 @@ fn composed(
     ensures prefix_len { IsPrefixLen (reports.bytes result) own.new }
     ensures own_after { take (reports.bytes result) own.new ≡ reports.front head (read_rows lent.now) lent.now.counted.now room }
 {
-    head::read_asked(head)?;
+    head::read_asked(head, lent.offsets)?;
     if !head::memory_whole(head, lent.sizes()) {
         return Err(Refusal::Memory);
     }

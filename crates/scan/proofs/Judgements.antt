@@ -5,7 +5,6 @@ use borrow.Author.Tests.{lt-leb}
 use Rattle.wants.specs.Wants.{Hist, cleared}
 use Rattle.head.specs.declared.Shedder.{Shedder}
 use Rattle.scan_trim.specs.Trimming.{trimmed}
-use Rattle.scan.specs.Walking.{walk_overflow}
 use Rattle.scan.specs.Scanning.{Scanning, scanning, visited, visit, again, ended, ended_at, opened, begun, scanned, is_idle}
 use Rattle.scan.specs.Laws.{Judgement, begins, goes_on, held, sweep, begins_with, Keeps, Stores, Place, Visits}
 use Rattle.scan.proofs.Scanning.{scanned_idle}
@@ -46,7 +45,7 @@ visits_twice s = mod-add-mod (s.head.visits + 1) (2 ^ 64) 1 ∙ ap (λ (n : ℕ)
 tables_twice : (s : Scanning)
     → held (visit (visit s)).head (visit (visit s)).rows (visit (visit s)).hist
     ≡ sweep s.head.overflow s.head.scan.at_ms (s.head.scan.next + 1) (sweep s.head.overflow s.head.scan.at_ms s.head.scan.next (held s.head s.rows s.hist))
-unfolding visit visited walk_overflow
+unfolding visit visited
 tables_twice s = refl
 
 -- ---- the end of a judgement: the level is stored where no table remains

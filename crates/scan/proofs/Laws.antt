@@ -1,6 +1,6 @@
 -- The laws of a scan (specs/Laws.antt). Assumes nothing.
 use Rattle.std.proofs.Common.{ℕ, ◌+◌, Bool, true, false, cond, ltb, leb}
-use Rattle.store_retain.specs.Retain.{retained}
+use Rattle.parts.specs.Parts.{left}
 use Rattle.wants.specs.Wants.{Hist, cleared}
 use Rattle.head.specs.declared.Shedder.{Shedder}
 use Rattle.scan_trim.specs.Trimming.{trimmed}
@@ -14,7 +14,7 @@ use Rattle.scan.proofs.Judgements.{ended_by, visits_two, rests}
 module _ (P : Shedder → Type 0) (at_visit : (h : Shedder) (n : ℕ) → P h → P (visited h n)) (at_begin : (h : Shedder) (t : ℕ) → P h → P (opened h t)) (at-end : (h : Shedder) (g : Hist) → P h → P (trimmed h g)) where
   visit_keeps : (s : Scanning) → P s.head → P (visit s).head
   unfolding visit
-  visit_keeps s p = at_visit s.head (retained s.rows s.head.scan.next s.head.scan.at_ms s.head.tracked).count p
+  visit_keeps s p = at_visit s.head (left s.rows s.head.tracked s.head.scan.next s.head.scan.at_ms) p
 
   again_keeps : (s : Scanning) → P s.head → P (again s).head
   unfolding again

@@ -1,4 +1,3 @@
-pub mod Turns
 pub mod Scanning
 pub mod Judgements
 pub mod Laws

@@ -1,37 +1,30 @@
 -- The scan from its parts. Assumes nothing.
-use Rattle.std.proofs.Common.{◌≡◌, ℕ, ◌+◌, ◌-◌, ◌≤◌, Bool, true, false, cond, ltb, leb, sym, refl, ap, ◌∙◌, subst, true≢false, arith}
-use Rattle.store.specs.Store.{Rows, None}
-use Rattle.store.proofs.Places.{Same}
-use Rattle.store_retain.specs.Retain.{Kept, kept, is_stale, retained}
-use Rattle.store_retain.proofs.Places.{retained_before}
-use Rattle.scan.proofs.Turns.{walk_same}
+use Rattle.std.proofs.Common.{◌≡◌, ℕ, ◌+◌, ◌-◌, ◌<◌, ◌≤◌, Bool, true, false, cond, ltb, leb, sym, refl, ap, ◌∙◌, subst, true≢false, arith}
+use Rattle.parts.specs.Parts.{Rows, dropped, left}
 use Rattle.wants.specs.Wants.{Hist, cleared}
 use Rattle.head.specs.declared.Shedder.{Shedder}
-use Rattle.scan.specs.Scanning.{scanning, visited, visit, visit_with, again, ended, ended_at, opened, started, is_idle, begun, scanned, scanned_from}
-use Rattle.scan.specs.Walking.{walk, walk_overflow}
+use Rattle.scan.specs.Scanning.{scanning, visited, visit, visit_to, again, ended, ended_at, opened, started, is_idle, begun, scanned, scanned_from}
+use Rattle.scan_visit.specs.Visiting.{visit_with}
 
 pub moved_on : (r n : ℕ) → 1 ≤ r → r + n ≤ 64 → r - 1 + (n + 1) ≤ 64
 moved_on r n p q = omega arith
 
--- the rows kept are, before the first stale one, those that were walked already
-pub walked_before : (m m1 : Rows) (table t tracked n i : ℕ) (g g1 : Hist)
-    → kept n m1 ≡ retained m table t tracked → i ≤ tracked → None (is_stale m.tags m.units table t) 0 i
-    → g1 ≡ walk m table t i g → g1 ≡ walk m1 table t i g
-walked_before m m1 table t tracked n i g g1 eK h still e =
-    e ∙ sym (walk_same m1 m table t i g (λ j l. subst (λ (k : Kept). Same k.rows j m j) (sym eK) (retained_before m table t i still tracked h j l)))
+-- a table that remains is one of the 64
+pub next_low : (r n : ℕ) → 1 ≤ r → r + n ≤ 64 → n < 64
+next_low r n p q = omega arith
 
 module _ (h : Shedder) (m : Rows) (g : Hist) where
-  pub visit_is : (n : ℕ) (m1 : Rows) (g1 g2 : Hist) (r : Shedder)
-      → kept n m1 ≡ retained m h.scan.next h.scan.at_ms h.tracked
-      → g1 ≡ walk_overflow h.overflow h.scan.next h.scan.at_ms g
-      → g2 ≡ walk m1 h.scan.next h.scan.at_ms n g1
+  pub visit_is : (n : ℕ) (m1 : Rows) (g1 : Hist) (r : Shedder)
+      → n ≡ left m h.tracked h.scan.next h.scan.at_ms
+      → m1 ≡ dropped m h.tracked h.scan.next h.scan.at_ms
+      → g1 ≡ visit_with m1 h.overflow h.scan.next h.scan.at_ms g
       → r ≡ visited h n
-      → scanning r m1 g2 ≡ visit (scanning h m g)
+      → scanning r m1 g1 ≡ visit (scanning h m g)
   unfolding visit
-  visit_is n m1 g1 g2 r eK e1 e2 eR =
-      ap (λ (r : Shedder). scanning r m1 g2) eR
-      ∙ ap (λ (g : Hist). scanning (visited h n) m1 g) (e2 ∙ ap (walk m1 h.scan.next h.scan.at_ms n) e1)
-      ∙ ap (visit_with (scanning h m g)) eK
+  visit_is n m1 g1 r eN eM eG eR =
+      ap (λ (r : Shedder). scanning r m1 g1) eR ∙ ap (scanning (visited h n) m1) eG
+      ∙ ap (λ (n : ℕ). visit_to (scanning h m g) n m1) eN
+      ∙ ap (visit_to (scanning h m g) (left m h.tracked h.scan.next h.scan.at_ms)) eM
 
   pub scanned_on : (clock : ℕ) (b : Shedder) (g1 : Hist) (v : Shedder) (m1 : Rows) (g2 : Hist) (w : Shedder) (m2 : Rows) (g3 : Hist) (r : Shedder)
       → started b g1 ≡ begun h g clock → leb 1 b.scan.remaining ≡ true

@@ -1,14 +1,13 @@
 -- Document 01 on a scan: it ends with its 32nd judgement, and no judgement leaves a trim or a level outside. Laws on the definitions. Statements only; proofs/Laws.antt proves them.
 -- They refuse a definition that visits other tables, or sets the level at another judgement, whatever the code does. Crate `scan_trim` has the laws of the trim and of the level stored.
 use Rattle.std.specs.Prelude.{◌≡◌, ℕ, zero, suc, ◌+◌, ◌*◌, ◌%◌, ◌^◌, ◌<◌, ◌≤◌, cond, ◌==◌}
-use Rattle.flow.specs.Flow.{numbers, is_fresh}
+use Rattle.flow.specs.Flow.{numbers}
 use Rattle.flow.specs.declared.Use.{Use}
-use Rattle.store_retain.specs.Retain.{retained}
-use Rattle.store.specs.Store.{Rows}
+use Rattle.parts.specs.Parts.{Rows, dropped, left}
 use Rattle.wants.specs.Wants.{Hist, cleared}
 use Rattle.head.specs.declared.Scan.{Scan}
 use Rattle.head.specs.declared.Shedder.{Shedder}
-use Rattle.scan.specs.Walking.{walk_use, walk}
+use Rattle.scan_visit.specs.Visiting.{visit_with}
 use Rattle.scan_trim.specs.Trimming.{levels, opens, trims_at}
 use Rattle.scan_trim.specs.Laws.{Rates, Trims, Levels}
 use Rattle.scan.specs.Scanning.{Scanning, scanned}
@@ -35,15 +34,11 @@ pub record Swept : Type 0 where
 abbrev pub held : Shedder → Rows → Hist → Swept
 held h m g = record { rows = m; tracked = h.tracked; hist = g }
 
--- overflow's want: at table 0, once it has been judged
-abbrev pub overflow_first : Use → ℕ → ℕ → Hist → Hist
-overflow_first overflow t table g = cond (table == 0) (cond (is_fresh overflow.fresh) g (walk_use overflow t g)) g
-
--- a table visited at the scan's stamp t: overflow's want first, then the stale are dropped, then the wants of those kept
+-- a table visited at the scan's stamp t: the stale of its part are dropped; overflow's want is added first, then the wants of those kept
 abbrev pub sweep : Use → ℕ → ℕ → Swept → Swept
 sweep overflow t table w =
-    let k = retained w.rows table t w.tracked in
-    record { rows = k.rows; tracked = k.count; hist = walk k.rows table t k.count (overflow_first overflow t table w.hist) }
+    let m = dropped w.rows w.tracked table t in
+    record { rows = m; tracked = left w.rows w.tracked table t; hist = visit_with m overflow table t w.hist }
 
 -- the histogram is cleared as the scan begins
 abbrev pub begins_with : ℕ → Hist → Hist

@@ -1,12 +1,11 @@
 -- A scan: when it begins, its visits, two tables a judgement, and its end. Definitions only.
 use Rattle.std.specs.Prelude.{ℕ, ◌+◌, ◌-◌, ◌/◌, ◌%◌, ◌^◌, Bool, false, cond, ◌==◌, nat_le, nat_lt}
 use Rattle.sender.specs.Sender.{«TABLES»}
-use Rattle.store_retain.specs.Retain.{Kept, retained}
-use Rattle.store.specs.Store.{Rows}
+use Rattle.parts.specs.Parts.{Rows, dropped, left}
 use Rattle.wants.specs.Wants as wants
 use Rattle.wants.specs.Wants.{Hist}
 use Rattle.head.specs.declared.Shedder.{Shedder}
-use Rattle.scan.specs.Walking.{walk_overflow, walk}
+use Rattle.scan_visit.specs.Visiting.{visit_with}
 use Rattle.scan_trim.specs.Trimming.{scan_then, trimmed}
 
 -- how often the level is found again: a scan begins every quarter of this
@@ -38,15 +37,15 @@ visited h n = scan_then h (record {
   read_admitted = h.scan.read_admitted;
 }) n ((h.visits + 1) % 2 ^ 64) h.level
 
--- with the rows that were kept, and how many
-abbrev pub visit_with : Scanning → Kept → Scanning
-visit_with s k =
-    scanning (visited s.head k.count) k.rows
-    (walk k.rows s.head.scan.next s.head.scan.at_ms k.count (walk_overflow s.head.overflow s.head.scan.next s.head.scan.at_ms s.hist))
+-- with so many records left, and the rows
+abbrev pub visit_to : Scanning → ℕ → Rows → Scanning
+visit_to s n m = scanning (visited s.head n) m (visit_with m s.head.overflow s.head.scan.next s.head.scan.at_ms s.hist)
 
--- a visit of the next table: overflow's want first at table 0, then the stale are dropped, then the wants of those kept
+-- a visit of the next table: the stale records of its part are dropped; overflow's want is added first at table 0, then the wants of those kept
 unfoldable pub visit : Scanning → Scanning
-visit s = visit_with s (retained s.rows s.head.scan.next s.head.scan.at_ms s.head.tracked)
+visit s =
+    visit_to s (left s.rows s.head.tracked s.head.scan.next s.head.scan.at_ms)
+    (dropped s.rows s.head.tracked s.head.scan.next s.head.scan.at_ms)
 
 -- the second visit of a judgement, where a table remains
 unfoldable pub again : Scanning → Scanning

@@ -40,6 +40,9 @@ fn answered(
     // A method of `Memory` could not promise what the rows hold once they come back.
     let mut lent = Lent {
         tags: &mut memory.tags,
+        slots: &mut memory.slots,
+        offsets: &mut memory.offsets,
+        free: &mut memory.free,
         units: &mut memory.units,
         uses: &mut memory.uses,
         counted: &mut memory.counted,

@@ -7,11 +7,10 @@ ghost use Rattle.store.specs.Causes as causes;
 
 mod floats;
 mod lent;
-mod records;
 
+pub use floats::{joined, part};
 use flow::DIMS;
-pub use lent::{Lent, LentRead, Sizes};
-pub use records::Records;
+pub use lent::{Lent, LentRead, OFFSETS, Sizes};
 use sender::{Name, Unit, Words};
 
 // Causes of a cut. A source counts its cuts for each.

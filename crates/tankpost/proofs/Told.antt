@@ -31,10 +31,12 @@ module _ (h : Shedder) (m : Rows) (g : Hist) (k : List (List ℕ)) where
   abbrev lent : Memory
   lent = memory m g k
 
-  pub start_tells : (rate ceiling : List ℕ) (s : Starting) (left : Hist) (n : ℕ) → starts.beginning s left ≡ start_with h lent rate ceiling → n ≡ start_number s.answer
-      → after n (record { head = s.head; rows = m; hist = left; counted = k }) ≡ told_as start_number (page.start (of h lent) rate ceiling)
-  start_tells rate ceiling s left n e en =
-      ap (λ (x : ℕ). after x (record { head = s.head; rows = m; hist = left; counted = k })) en
+  pub start_tells : (rate ceiling : List ℕ) (s : Starting) (rows : Rows) (left : Hist) (counted : List (List ℕ)) (n : ℕ)
+      → starts.beginning s rows left ≡ start_with h lent rate ceiling → counted ≡ k → n ≡ start_number s.answer
+      → after n (record { head = s.head; rows = rows; hist = left; counted = counted }) ≡ told_as start_number (page.start (of h lent) rate ceiling)
+  start_tells rate ceiling s rows left counted n e ek en =
+      ap (λ (x : ℕ). after x (record { head = s.head; rows = rows; hist = left; counted = counted })) en
+      ∙ ap (λ (x : List (List ℕ)). after (start_number s.answer) (record { head = s.head; rows = rows; hist = left; counted = x })) ek
       ∙ ap (λ (b : starts.Beginning). told_as start_number (started lent b)) e
       ∙ sym (ap (told_as start_number) (agrees.start_is h lent rate ceiling))
 

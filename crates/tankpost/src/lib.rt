@@ -1,6 +1,6 @@
 // The calls for relays in Rust or C. `rt lib` in this folder makes the archive that they link, out/libtankpost.a.
 // The head goes in and comes back by value; all other memory is lent. In C a slice is a pointer and a count, a reference to
-// an array is a pointer: so the exported functions take each slice by itself, and lend them on as one. Any bits may stand in head and memory. Each contract cites the page of crate meaning.
+// an array (the offsets, the histogram) is a pointer: so the exported functions take each slice by itself, and lend them on as one. Any bits may stand in head and memory. Each contract cites the page of crate meaning.
 #![tactic(auto)]
 
 ghost use Rattle.std.specs.Prelude.{◌≡◌};
@@ -18,7 +18,7 @@ use codes::{Count, Decision, Level};
 use flow::DIMS;
 use head::Shedder;
 use sender::{Unit, Words};
-use store::{Lent, LentRead, SourceRow, UnitRow, UseRow};
+use store::{Lent, LentRead, OFFSETS, SourceRow, UnitRow, UseRow};
 use wants::{Counts, Histogram, Sums};
 
 // A call's answer as a number (crate codes), and the head after it. C has no Result: a number tells the answer here and in each call.
@@ -37,33 +37,39 @@ pub struct Judged {
     pub head: Shedder,
 }
 
-// head::start: 0, or the number of the refusal. The head given is left by a refused start.
+// head::start: 0, or the number of the refusal. Offsets, free slots and histogram are written; the head given, and the memory, are left by a refused start.
 #[unsafe(no_mangle)]
 pub extern "C" fn tankpost_start(
     head: Shedder,
-    tags: &[u16],
-    units: &[UnitRow],
-    uses: &[UseRow],
+    tags: &mut [u16],
+    slots: &mut [u32],
+    offsets: &mut [u32; OFFSETS],
+    free: &mut [u32],
+    units: &mut [UnitRow],
+    uses: &mut [UseRow],
     counts: &mut Counts,
     sums: &mut Sums,
-    counted: &[SourceRow],
+    counted: &mut [SourceRow],
     rate: &[u64; DIMS],
     ceiling: &[u64; DIMS],
 ) -> Answered
     ensures { SameButNanBits
-        (after result.answer (state result.head tags.now units.now uses.now counts.new sums.new counted.now))
+        (after result.answer (state result.head tags.new slots.new offsets.new free.new units.new uses.new counts.new sums.new counted.new))
         (told_as start_number
-        (page.start (state head tags.now units.now uses.now counts.old sums.old counted.now)
+        (page.start (state head tags.old slots.old offsets.old free.old units.old uses.old counts.old sums.old counted.old)
         rate.now ceiling.now)) }
 {
-    let lent = LentRead {
+    let mut lent = Lent {
         tags,
+        slots,
+        offsets,
+        free,
         units,
         uses,
         counted,
     };
     let mut histogram = Histogram { counts, sums };
-    let s = head::start(head, &lent, &mut histogram, *rate, *ceiling);
+    let s = head::start(head, &mut lent, &mut histogram, *rate, *ceiling);
     Answered {
         answer: codes::answer_number(s.answer),
         head: s.head,
@@ -75,6 +81,9 @@ pub extern "C" fn tankpost_start(
 pub extern "C" fn tankpost_judge(
     head: Shedder,
     tags: &mut [u16],
+    slots: &mut [u32],
+    offsets: &mut [u32; OFFSETS],
+    free: &mut [u32],
     units: &mut [UnitRow],
     uses: &mut [UseRow],
     counts: &mut Counts,
@@ -85,13 +94,16 @@ pub extern "C" fn tankpost_judge(
     stamp: u64,
 ) -> Judged
     ensures { SameButNanBits
-        (after result.decision (state result.head tags.new units.new uses.new counts.new sums.new counted.new))
+        (after result.decision (state result.head tags.new slots.new offsets.new free.new units.new uses.new counts.new sums.new counted.new))
         (judged_as decision_of
-        (state head tags.old units.old uses.old counts.old sums.old counted.old)
+        (state head tags.old slots.old offsets.old free.old units.old uses.old counts.old sums.old counted.old)
         (unit_of unit) cost.now stamp) }
 {
     let mut lent = Lent {
         tags,
+        slots,
+        offsets,
+        free,
         units,
         uses,
         counted,
@@ -116,6 +128,9 @@ pub extern "C" fn tankpost_judge(
 pub extern "C" fn tankpost_cut(
     head: Shedder,
     tags: &mut [u16],
+    slots: &mut [u32],
+    offsets: &mut [u32; OFFSETS],
+    free: &mut [u32],
     units: &mut [UnitRow],
     uses: &mut [UseRow],
     counted: &mut [SourceRow],
@@ -124,13 +139,16 @@ pub extern "C" fn tankpost_cut(
     cost: &[u64; DIMS],
 ) -> Answered
     ensures { (g : Hist) → SameButNanBits
-        (after result.answer (state_with g result.head tags.new units.new uses.new counted.new))
+        (after result.answer (state_with g result.head tags.new slots.new offsets.new free.new units.new uses.new counted.new))
         (told_as cut_number
-        (page.cut (state_with g head tags.old units.old uses.old counted.old)
+        (page.cut (state_with g head tags.old slots.old offsets.old free.old units.old uses.old counted.old)
         (unit_of unit) (cause_of cause) cost.now)) }
 {
     let mut lent = Lent {
         tags,
+        slots,
+        offsets,
+        free,
         units,
         uses,
         counted,
@@ -153,16 +171,22 @@ pub extern "C" fn tankpost_cut(
 pub extern "C" fn tankpost_report(
     head: Shedder,
     tags: &[u16],
+    slots: &[u32],
+    offsets: &[u32; OFFSETS],
+    free: &[u32],
     units: &[UnitRow],
     uses: &[UseRow],
     counted: &[SourceRow],
     out: &mut [u8],
 ) -> Count
     ensures { (g : Hist) → reported result out.new
-        ≡ report_told (page.report (state_with g head tags.now units.now uses.now counted.now) out.old) }
+        ≡ report_told (page.report (state_with g head tags.now slots.now offsets.now free.now units.now uses.now counted.now) out.old) }
 {
     let lent = LentRead {
         tags,
+        slots,
+        offsets,
+        free,
         units,
         uses,
         counted,
@@ -175,15 +199,21 @@ pub extern "C" fn tankpost_report(
 pub extern "C" fn tankpost_report_refusal(
     head: Shedder,
     tags: &[u16],
+    slots: &[u32],
+    offsets: &[u32; OFFSETS],
+    free: &[u32],
     units: &[UnitRow],
     uses: &[UseRow],
     counted: &[SourceRow],
     out: &[u8],
 ) -> u64
-    ensures { (g : Hist) → result ≡ page.report_refusal (state_with g head tags.now units.now uses.now counted.now) out.now }
+    ensures { (g : Hist) → result ≡ page.report_refusal (state_with g head tags.now slots.now offsets.now free.now units.now uses.now counted.now) out.now }
 {
     let lent = LentRead {
         tags,
+        slots,
+        offsets,
+        free,
         units,
         uses,
         counted,
@@ -194,38 +224,38 @@ pub extern "C" fn tankpost_report_refusal(
 // ---- the readings: one shape, each an exported call of its own
 
 #[unsafe(no_mangle)]
-pub extern "C" fn tankpost_visited(head: Shedder) -> Count
-    ensures { result ≡ read_count (page.visited head) }
+pub extern "C" fn tankpost_visited(head: Shedder, offsets: &[u32; OFFSETS]) -> Count
+    ensures { result ≡ read_count (page.visited head offsets.now) }
 {
-    codes::read_count(head_readings::visited(head))
+    codes::read_count(head_readings::visited(head, offsets))
 }
 
 #[unsafe(no_mangle)]
-pub extern "C" fn tankpost_cut_batches(head: Shedder, cause: u64) -> Count
-    ensures { result ≡ read_count (page.cut_batches head (cause_of cause)) }
+pub extern "C" fn tankpost_cut_batches(head: Shedder, offsets: &[u32; OFFSETS], cause: u64) -> Count
+    ensures { result ≡ read_count (page.cut_batches head offsets.now (cause_of cause)) }
 {
-    codes::read_count(head_readings::cut_batches(head, codes::cause_of(cause)))
+    codes::read_count(head_readings::cut_batches(head, offsets, codes::cause_of(cause)))
 }
 
 #[unsafe(no_mangle)]
-pub extern "C" fn tankpost_level(head: Shedder, dim: u64) -> Level
-    ensures { SameButNanBits result (read_level (page.level head (dim_of dim))) }
+pub extern "C" fn tankpost_level(head: Shedder, offsets: &[u32; OFFSETS], dim: u64) -> Level
+    ensures { SameButNanBits result (read_level (page.level head offsets.now (dim_of dim))) }
 {
-    codes::read_level(head_readings::level(head, codes::dim_of(dim)))
+    codes::read_level(head_readings::level(head, offsets, codes::dim_of(dim)))
 }
 
 // An unbounded relay's rate reads u64::MAX.
 #[unsafe(no_mangle)]
-pub extern "C" fn tankpost_rate(head: Shedder, dim: u64) -> Count
-    ensures { result ≡ read_rate (page.rate head (dim_of dim)) }
+pub extern "C" fn tankpost_rate(head: Shedder, offsets: &[u32; OFFSETS], dim: u64) -> Count
+    ensures { result ≡ read_rate (page.rate head offsets.now (dim_of dim)) }
 {
-    codes::read_rate(head_readings::rate(head, codes::dim_of(dim)))
+    codes::read_rate(head_readings::rate(head, offsets, codes::dim_of(dim)))
 }
 
 // 1 for a bounded relay, 0 for an unbounded one.
 #[unsafe(no_mangle)]
-pub extern "C" fn tankpost_is_bounded(head: Shedder) -> Count
-    ensures { result ≡ read_bounded (page.is_bounded head) }
+pub extern "C" fn tankpost_is_bounded(head: Shedder, offsets: &[u32; OFFSETS]) -> Count
+    ensures { result ≡ read_bounded (page.is_bounded head offsets.now) }
 {
-    codes::read_bounded(head_readings::is_bounded(head))
+    codes::read_bounded(head_readings::is_bounded(head, offsets))
 }

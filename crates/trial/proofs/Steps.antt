@@ -45,13 +45,14 @@ module _ (s : State) where
   abbrev begun : After Begin → State
   begun b = left_by s (has_begun s.started b.answer) b begin_text
 
-  pub start_step : (l : StartLine) (r : Starting) (g : Hist) (rate ceiling : List ℕ) (b : Bool) (q : Page) → rate ≡ of_dims l.rate → ceiling ≡ of_dims l.ceiling
-      → starts.beginning r g ≡ start_with rate ceiling → q ≡ write s.page (begin_text r.answer) → b ≡ has_begun s.started r.answer
-      → made r.head b (memory s.memory.rows g s.memory.counted) q ≡ start s l
+  pub start_step : (l : StartLine) (r : Starting) (m : Rows) (g : Hist) (k : List (List ℕ)) (rate ceiling : List ℕ) (b : Bool) (q : Page) → rate ≡ of_dims l.rate → ceiling ≡ of_dims l.ceiling
+      → starts.beginning r m g ≡ start_with rate ceiling → k ≡ s.memory.counted → q ≡ write s.page (begin_text r.answer) → b ≡ has_begun s.started r.answer
+      → made r.head b (memory m g k) q ≡ start s l
   unfolding start
-  start_step l r g rate ceiling b q er ec e eq eb =
-      ap (λ (x : Bool). made r.head x (memory s.memory.rows g s.memory.counted) q) eb
-      ∙ ap (made r.head (has_begun s.started r.answer) (memory s.memory.rows g s.memory.counted)) eq
+  start_step l r m g k rate ceiling b q er ec e ek eq eb =
+      ap (λ (x : Bool). made r.head x (memory m g k) q) eb
+      ∙ ap (λ (x : List (List ℕ)). made r.head (has_begun s.started r.answer) (memory m g x) q) ek
+      ∙ ap (made r.head (has_begun s.started r.answer) (memory m g s.memory.counted)) eq
       ∙ ap (λ (x : starts.Beginning). begun (law.started s.memory x)) (e ∙ ap (λ (x : List ℕ). start_with x ceiling) er ∙ ap (start_with (of_dims l.rate)) ec)
       ∙ sym (ap begun (agrees.start_is s.head s.memory (of_dims l.rate) (of_dims l.ceiling)))
 

@@ -106,23 +106,18 @@ fn refused(t: Trial, page: &mut Page<'_>, n: u64) -> Trial
 
 fn start(
     t: Trial,
-    lent: &Lent<'_>,
+    lent: &mut Lent<'_>,
     histogram: &mut Histogram<'_>,
     l: StartLine,
     page: &mut Page<'_>,
 ) -> Trial
     ensures same_reference { page.new.out.ghost_name ≡ page.old.out.ghost_name }
+    ensures slices { SameLent lent.old lent.new }
     ensures arrays { SameArrays histogram.old histogram.new }
-    ensures value { trial.state result (lent_memory lent.now histogram.new) (seen page.new)
-        ≡ trial.start (trial.state t (lent_memory lent.now histogram.old) (seen page.old)) l }
+    ensures value { trial.state result (lent_memory lent.new histogram.new) (seen page.new)
+        ≡ trial.start (trial.state t (lent_memory lent.old histogram.old) (seen page.old)) l }
 {
-    let s = head::start(
-        t.head,
-        &lent.read(),
-        histogram,
-        l.rate.into(),
-        l.ceiling.into(),
-    );
+    let s = head::start(t.head, lent, histogram, l.rate.into(), l.ceiling.into());
     trial_script::put_begin(page, s.answer);
     Trial {
         head: s.head,

@@ -12,9 +12,10 @@ use std::sync::atomic::Ordering;
 pub struct Both {
     rust: Option<shed::Shedder>,
     here: Shedder,
-    /// the memory as the last start found it, and the most records in use since
+    /// the memory as the last start left it, the most records in use since, and the slots used since
     found: Shedder,
     most: [usize; 2],
+    used: Vec<bool>,
     /// the tags and words of the records written since the last start
     written: Vec<(u16, Words)>,
     /// all is compared each so many steps, the head and the unit's record at each
@@ -64,6 +65,26 @@ fn set_head_words(h: &mut Head, w: &[u64; HEAD_WORDS]) {
     h.receptions = [w[36], w[37], w[38]];
 }
 
+fn unit_row(s: &Shedder, slot: usize) -> ([u64; 7], [u64; 4]) {
+    (s.units[slot], s.uses[slot].map(f64::to_bits))
+}
+
+/// The places of a table's entries in the index.
+fn part(s: &Shedder, table: usize) -> std::ops::Range<usize> {
+    s.offsets[table] as usize..s.offsets[table + 1] as usize
+}
+
+/// The slot of an entry's rows; one that there is not reads as slot 0.
+fn slot_at(s: &Shedder, i: usize) -> usize {
+    let slot = s.slots[i] as usize;
+    if slot < s.units.len() { slot } else { 0 }
+}
+
+/// The slot that the next record takes.
+fn next_slot(s: &Shedder) -> Option<usize> {
+    s.free[..s.free.len() - s.head.tracked].last().map(|slot| *slot as usize)
+}
+
 fn index(cause: Cause) -> u64 {
     match cause {
         Cause::ReceiverCeiling => 0,
@@ -81,13 +102,16 @@ impl Both {
         if let Some(seed) = any_bits {
             let mut random = Random(seed);
             here.tags.fill_with(|| random.word() as u16);
+            here.slots.fill_with(|| random.word() as u32);
+            here.offsets = [(); 65].map(|_| random.word() as u32);
+            here.free.fill_with(|| random.word() as u32);
             here.units.fill_with(|| [(); 7].map(|_| random.word()));
             here.uses.fill_with(|| [(); 4].map(|_| f64::from_bits(random.word())));
             here.counted.fill_with(|| [(); 8].map(|_| random.word()));
             here.sums[1].fill_with(|| f64::from_bits(random.word()));
             here.counts[0].fill_with(|| random.word() as u32);
         }
-        Self { rust: None, found: here.clone(), here, most: [0; 2], written: Vec::new(), stride, steps: 0 }
+        Self { rust: None, found: here.clone(), here, most: [0; 2], used: vec![false; units], written: Vec::new(), stride, steps: 0 }
     }
 
     fn start(&mut self, rate: [u64; 2], ceiling: [u64; 2]) -> Result<(), String> {
@@ -98,6 +122,7 @@ impl Both {
             self.rust = Some(shed::Shedder::new(rates(rate), rates(ceiling)));
             self.found = self.here.clone();
             self.most = [0; 2];
+            self.used.fill(false);
             self.written.clear();
         }
         Ok(())
@@ -153,13 +178,17 @@ impl Both {
                 h.sums[dim][bucket] = f64::from_bits(sum);
                 rust.set_want(dim, bucket, count, sum);
             }
-            Step::Record(tag, words, used, fresh) if rust.is_bounded() && h.head.tracked < h.head.unit_room => {
-                let i = h.head.tracked;
-                h.tags[i] = tag;
+            Step::Record(table, tag, words, used, fresh) if rust.is_bounded() && h.head.tracked < h.head.unit_room => {
+                let (at, end) = (h.offsets[table + 1] as usize, h.head.tracked);
+                let i = next_slot(h).unwrap();
+                h.tags.copy_within(at..end, at + 1);
+                h.slots.copy_within(at..end, at + 1);
+                (h.tags[at], h.slots[at]) = (tag, i as u32);
+                h.offsets[table + 1..].iter_mut().for_each(|o| *o += 1);
                 h.units[i] = [words.kind, words.a, words.b, words.c, words.d, used[4], if used[5] != 0 { fresh } else { 0 }];
                 h.uses[i] = [0, 1, 2, 3].map(|k| f64::from_bits(used[k]));
                 h.head.tracked += 1;
-                rust.push_unit(usize::from(tag >> 10), reads(tag, words), &used);
+                rust.push_unit(table, reads(tag, words), &used);
                 self.written.push((tag, words));
             }
             Step::Counted(tag, words, counts) if h.head.counted + 1 < h.head.counted_room => {
@@ -203,8 +232,13 @@ impl Both {
     }
 
     pub fn step(&mut self, step: &Step) -> Result<(), String> {
+        let next = self.rust.as_ref().and_then(|_| next_slot(&self.here));
         self.call(step)?;
         self.steps += 1;
+        // a call adds one record at most
+        if let Some(slot) = next.filter(|slot| unit_row(&self.here, *slot) != unit_row(&self.found, *slot)) {
+            self.used[slot] = true;
+        }
         self.most = [self.most[0].max(self.here.head.tracked), self.most[1].max(self.here.head.counted)];
         let Some(rust) = &self.rust else { return Ok(()) };
         differs("head", rust.head_words(), head_words(&self.here.head))?;
@@ -231,18 +265,19 @@ impl Both {
     }
 
     fn record(&self, i: usize) -> (Unit, shed::UseWords) {
-        let (row, used) = (&self.here.units[i], self.here.uses[i].map(bits));
+        let slot = slot_at(&self.here, i);
+        let (row, used) = (&self.here.units[slot], self.here.uses[slot].map(bits));
         (reads(self.here.tags[i], row_words(row)), [used[0], used[1], used[2], used[3], row[5], u64::from(row[6] != 0)])
     }
 
-    /// The unit's record, where it has one of its own. Overflow's stands in the head.
+    /// The unit's record, where its own table has one. Overflow's stands in the head.
     fn same_unit(&self, unit: Unit) -> Result<(), String> {
         let Some(rust) = self.rust.as_ref().filter(|_| unit != Unit::Overflow) else { return Ok(()) };
         let h = &self.here;
         // the same as that it reads as the unit, without a hash for each record
         let (tag, words) = (tag_of(unit), words_of(unit));
-        let own = |i: &usize| h.tags[*i] == tag && row_words(&h.units[*i]) == words;
-        let here = (0..h.head.tracked).find(own).map(|i| self.record(i).1);
+        let own = |i: &usize| h.tags[*i] == tag && row_words(&h.units[slot_at(h, *i)]) == words;
+        let here = part(h, usize::from(tag >> 10)).find(own).map(|i| self.record(i).1);
         differs("record", rust.use_words(unit), here)
     }
 
@@ -250,18 +285,15 @@ impl Both {
     pub fn same_all(&mut self, behind: usize) -> Result<(), String> {
         let Some(rust) = &self.rust else { return Ok(()) };
         let h = &self.here;
-        let mut tables = vec![Vec::new(); 64];
-        for i in 0..h.head.tracked {
-            tables[usize::from(h.tags[i] >> 10)].push(self.record(i));
-        }
-        for (i, table) in tables.into_iter().enumerate() {
-            differs(&format!("table {i}"), rust.table_words(i), table)?;
+        differs("offsets", true, questions::parts(h))?;
+        for i in 0..64 {
+            differs(&format!("table {i}"), rust.table_words(i), part(h, i).map(|k| self.record(k)).collect())?;
         }
         let row = |(tag, r): (&u16, &[u64; 8])| (reads(*tag, row_words(r)), [r[5], r[6], r[7]]);
         let counted = || h.tags[h.units.len()..].iter().zip(&h.counted[..h.head.counted]);
         differs("counted", rust.counted_words(), counted().map(row).collect())?;
         // what reads as overflow is overflow's own, or was written so: the Rust does not have its tag and words
-        let units = h.tags.iter().zip(&h.units[..h.head.tracked]).map(|(tag, r)| (*tag, row_words(r)));
+        let units = (0..h.head.tracked).map(|i| (h.tags[i], row_words(&h.units[slot_at(h, i)])));
         for name in units.chain(counted().map(|(tag, r)| (*tag, row_words(r)))) {
             let own = (tag_of(Unit::Overflow), words_of(Unit::Overflow));
             let known = reads(name.0, name.1) != Unit::Overflow || name == own || self.written.contains(&name);
@@ -275,18 +307,28 @@ impl Both {
         self.same_free(behind)
     }
 
-    /// Rows behind those in use are zero where a record stood since the start, else as the start found them. A row that
-    /// was used and freed within one call shows only here.
+    /// Each slot is an entry's or free, once. Places of the index and counted records behind those in use are zero where one
+    /// stood since the start, else as the start left them; so are the rows of free slots. A place that was used and freed
+    /// within one call shows only here.
     fn same_free(&mut self, behind: usize) -> Result<(), String> {
         let h = &self.here;
-        let unit_row = |s: &Shedder, i: usize| (s.tags[i], s.units[i], s.uses[i].map(f64::to_bits));
-        let zero = (0, [0; 7], [0; 4]);
-        if self.most[0] < h.units.len() && unit_row(h, self.most[0]) == zero {
+        let (tracked, room) = (h.head.tracked, h.units.len());
+        let entry = |s: &Shedder, i: usize| (s.tags[i], s.slots[i]);
+        if self.most[0] < room && entry(h, self.most[0]) == (0, 0) {
             self.most[0] += 1;
         }
-        for i in h.head.tracked..h.units.len().min(self.most[0].saturating_add(behind)) {
-            let expected = if i < self.most[0] { zero } else { unit_row(&self.found, i) };
-            differs("a free unit record", expected, unit_row(h, i))?;
+        for i in tracked..room.min(self.most[0].saturating_add(behind)) {
+            let expected = if i < self.most[0] { (0, 0) } else { entry(&self.found, i) };
+            differs("a free place of the index", expected, entry(h, i))?;
+        }
+        let mut named = vec![false; room];
+        for slot in h.slots[..tracked].iter().chain(&h.free[..room - tracked]) {
+            differs("a slot named twice", Some(&false), named.get(*slot as usize))?;
+            named[*slot as usize] = true;
+        }
+        for slot in h.free[..room - tracked].iter().map(|slot| *slot as usize) {
+            let expected = if self.used[slot] { ([0; 7], [0; 4]) } else { unit_row(&self.found, slot) };
+            differs("a free slot", expected, unit_row(h, slot))?;
         }
         let counted_row = |s: &Shedder, i: usize| (s.tags[s.units.len() + i], s.counted[i]);
         if self.most[1] < h.counted.len() && counted_row(h, self.most[1]) == (0, [0; 8]) {

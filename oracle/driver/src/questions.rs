@@ -22,13 +22,23 @@ fn head(h: &Head) -> bool {
         && h.counted <= h.counted_room - 1
 }
 
+/// The offsets begin at 0, never fall and end at the number of records in use.
+pub fn parts(s: &Shedder) -> bool {
+    let o = &s.offsets;
+    o[0] == 0 && o.windows(2).all(|w| w[0] <= w[1]) && o[64] as usize == s.head.tracked
+}
+
+fn whole(s: &Shedder) -> bool {
+    head(&s.head) && parts(s)
+}
+
 /// A tag for each unit record and each counted record.
 fn tags(s: &Shedder) -> bool {
     s.tags.len() == s.units.len() + s.counted.len()
 }
 
 fn memory(s: &Shedder) -> bool {
-    tags(s) && [s.units.len(), s.uses.len()] == [s.head.unit_room; 2] && s.counted.len() == s.head.counted_room
+    tags(s) && [s.slots.len(), s.free.len(), s.units.len(), s.uses.len()] == [s.head.unit_room; 4] && s.counted.len() == s.head.counted_room
 }
 
 fn first_no(answers: &[(u64, bool)]) -> u64 {
@@ -40,12 +50,12 @@ fn costs(cost: [u64; 2]) -> bool {
 }
 
 pub fn start(s: &Shedder, rate: [u64; 2]) -> u64 {
-    let fits = tags(s) && s.uses.len() == s.units.len();
+    let fits = tags(s) && [s.slots.len(), s.free.len(), s.uses.len()] == [s.units.len(); 3];
     first_no(&[(1, rates(rate)), (2, fits && rooms(s.units.len(), s.counted.len()))])
 }
 
 pub fn judge(s: &Shedder, cost: [u64; 2], stamp: u64) -> u64 {
-    if !head(&s.head) {
+    if !whole(s) {
         return 3;
     }
     first_no(&[(4, memory(s)), (5, costs(cost)), (6, stamp <= STAMP)])
@@ -61,5 +71,5 @@ pub fn report(s: &Shedder) -> u64 {
 }
 
 pub fn read(s: &Shedder) -> u64 {
-    if head(&s.head) { 0 } else { 3 }
+    if whole(s) { 0 } else { 3 }
 }

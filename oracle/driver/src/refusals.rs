@@ -17,7 +17,7 @@ fn bytes_of<T>(rows: &[T]) -> &[u8] {
 /// Head and memory as bytes; each byte of the head belongs to a field.
 fn held(s: &Shedder) -> Vec<u8> {
     let mut out = bytes_of(std::slice::from_ref(&s.head)).to_vec();
-    for rows in [bytes_of(&s.tags), bytes_of(&s.units), bytes_of(&s.uses), bytes_of(&s.counted)] {
+    for rows in [bytes_of(&s.tags), bytes_of(&s.slots), bytes_of(&s.offsets), bytes_of(&s.free), bytes_of(&s.units), bytes_of(&s.uses), bytes_of(&s.counted)] {
         out.extend(rows);
     }
     out.extend(bytes_of(std::slice::from_ref(&*s.counts)));
@@ -29,6 +29,9 @@ fn held(s: &Shedder) -> Vec<u8> {
 fn used(random: &mut Random) -> Shedder {
     let mut s = Shedder::new(1 + random.below(20), 2 + random.below(8));
     s.tags.fill_with(|| random.word() as u16);
+    s.slots.fill_with(|| random.word() as u32);
+    s.offsets = [(); 65].map(|_| random.word() as u32);
+    s.free.fill_with(|| random.word() as u32);
     s.uses.fill_with(|| [(); 4].map(|_| f64::from_bits(random.word())));
     let rate = if random.below(5) == 0 { [u64::MAX; 2] } else { [1 + random.below(50) as u64, 1 + random.below(5_000) as u64] };
     assert_eq!(s.start(rate, [random.sized(), random.sized()]), 0);
@@ -39,12 +42,12 @@ fn used(random: &mut Random) -> Shedder {
     s
 }
 
-/// One field of the head or one length becomes another.
+/// One field of the head, one length or some offsets become others.
 fn spoil(s: &mut Shedder, random: &mut Random) {
     let h = &mut s.head;
     let stamp = random.one(&[STAMP, STAMP + 1, u64::MAX, 0]);
     let size = random.one(&[0, 1, 2, 63, 64, 65, 131_072, 131_073, 4_097, 4_098, usize::MAX]);
-    match random.below(18) {
+    match random.below(25) {
         0 => h.flow.rate[random.below(2)] = random.one(&[0, 1, MOST, MOST + 1, u64::MAX, u64::MAX - 1]),
         1 => h.flow.at_ms = stamp,
         2 => h.scan.at_ms = stamp,
@@ -62,6 +65,13 @@ fn spoil(s: &mut Shedder, random: &mut Random) {
         14 => s.units.push([0; 7]),
         15 => s.uses.truncate(random.below(22)),
         16 => s.counted.push([0; 8]),
+        17 => s.slots.truncate(random.below(22)),
+        18 => s.slots.push(0),
+        19 => s.free.truncate(random.below(22)),
+        20 => s.free.push(0),
+        21 => s.offsets[random.below(65)] = random.one(&[0, 1, 2, 20, 21, 131_072, u32::MAX]),
+        22 => s.offsets[random.below(65)..].iter_mut().for_each(|o| *o = o.wrapping_add(1)),
+        23 => s.offsets[0] = 1,
         _ => s.counted.truncate(random.below(9)),
     }
 }

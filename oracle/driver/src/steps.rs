@@ -17,8 +17,8 @@ pub enum Step {
     Tables(u64, u64),
     /// a bucket of a dimension's histogram: count and sum
     Want(usize, usize, u32, u64),
-    /// a record more of this tag and these words, with this word for fresh
-    Record(u16, Words, UseWords, u64),
+    /// a record more at the end of this table's part, of this tag and these words, with this word for fresh
+    Record(usize, u16, Words, UseWords, u64),
     /// a counted source more
     Counted(u16, Words, [u64; 3]),
 }
@@ -113,7 +113,9 @@ pub fn a_write(random: &mut Random, known: &[Unit]) -> Step {
     match random.below(8) {
         0 | 1 => {
             let (tag, words) = some_name(random, known);
-            Step::Record(tag, words, a_use(random), random.word() | 1)
+            // now and then in another table's part, where it is not found
+            let table = if random.below(8) == 0 { random.below(64) } else { usize::from(tag >> 10) };
+            Step::Record(table, tag, words, a_use(random), random.word() | 1)
         }
         2 => Step::Want(random.below(2), random.below(768), random.sized() as u32, random.float()),
         3 => {

@@ -12,10 +12,10 @@ unfolding call_of
 returns-in-Read-clause-turns c =
     let r = c.read.ensures in
     rw (c.in-Read.is, c.empty.ensures)
-    (read_turns _ _ _ _ _ (rw (r.tags_read, r.units_read, r.uses_read, r.counted_read) at c.answer_reading-number.ensures.value (wants_held c.args.histogram.now)))
+    (read_turns _ _ _ _ _ (rw (r.tags_read, r.slots_read, r.offsets_read, r.free_read, r.units_read, r.uses_read, r.counted_read) at c.answer_reading-number.ensures.value (wants_held c.args.histogram.now)))
 
 pub returns-in-Read-clause-out_after : goal.returns-in-Read-clause-out_after
 unfolding call_of
 returns-in-Read-clause-out_after c =
     let r = c.read.ensures in
-    rw c.in-Read.is (rw (r.tags_read, r.units_read, r.uses_read, r.counted_read) at c.answer_reading-number.ensures.out_after (wants_held c.args.histogram.now))
+    rw c.in-Read.is (rw (r.tags_read, r.slots_read, r.offsets_read, r.free_read, r.units_read, r.uses_read, r.counted_read) at c.answer_reading-number.ensures.out_after (wants_held c.args.histogram.now))

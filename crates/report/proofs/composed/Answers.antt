@@ -17,7 +17,7 @@ use Rattle.report.proofs.composed.Goals as goal
 pub returns-in_err-read_asked : goal.returns-in_err-read_asked
 unfolding refusal_of
 returns-in_err-read_asked c =
-    let r = read_refused c.args.head c.read_asked.result _ c.in_err-read_asked.was c.read_asked.ensures in
+    let r = read_refused c.args.head c.args.lent.now.offsets.now c.read_asked.result _ c.in_err-read_asked.was c.read_asked.ensures in
     let q : c.from_residual.result ≡ Err c.in_err-read_asked.field-0.0 = search rules in
     let w = refused c.args.head (read_rows c.args.lent.now) c.args.lent.now.counted.now c.args.room 3 _ _ c.args.own.now refl refl (asked_head c.args.head (read_rows c.args.lent.now) c.args.lent.now.counted.now c.args.room r.0) (q ∙ ap Err r.1) in
     record {
@@ -29,7 +29,7 @@ returns-in_err-read_asked c =
 pub returns-then-not-memory_whole : goal.returns-then-not-memory_whole
 unfolding refusal_of
 returns-then-not-memory_whole c =
-    let whole = read_answered c.args.head c.read_asked.result _ c.in_ok-read_asked.was c.read_asked.ensures in
+    let whole = read_answered c.args.head c.args.lent.now.offsets.now c.read_asked.result _ c.in_ok-read_asked.was c.read_asked.ensures in
     let w = refused c.args.head (read_rows c.args.lent.now) c.args.lent.now.counted.now c.args.room 4 _ _ c.args.own.now refl refl (asked_memory c.args.head (read_rows c.args.lent.now) c.args.lent.now.counted.now c.args.room whole (sym (c.memory_whole.ensures ∙ ap (memory_whole c.args.head) c.sizes.ensures) ∙ c.if-not-memory_whole.true)) refl in
     record {
       value = w.0;
@@ -39,12 +39,12 @@ returns-then-not-memory_whole c =
 
 pub source_tags-tags-requires : goal.source_tags-tags-requires
 source_tags-tags-requires c =
-    (counted_held _ (read_rows c.args.lent.now) c.args.lent.now.counted.now (read_answered c.args.head c.read_asked.result _ c.in_ok-read_asked.was c.read_asked.ensures)
+    (counted_held _ (read_rows c.args.lent.now) c.args.lent.now.counted.now (read_answered c.args.head c.args.lent.now.offsets.now c.read_asked.result _ c.in_ok-read_asked.was c.read_asked.ensures)
     (sym (c.memory_whole.ensures ∙ ap (memory_whole c.args.head) c.sizes.ensures) ∙ c.if-not-memory_whole.false)).room
 
 pub write_text-n-requires : goal.write_text-n-requires
 write_text-n-requires c =
-    let w = counted_held _ (read_rows c.args.lent.now) c.args.lent.now.counted.now (read_answered c.args.head c.read_asked.result _ c.in_ok-read_asked.was c.read_asked.ensures)
+    let w = counted_held _ (read_rows c.args.lent.now) c.args.lent.now.counted.now (read_answered c.args.head c.args.lent.now.offsets.now c.read_asked.result _ c.in_ok-read_asked.was c.read_asked.ensures)
     (sym (c.memory_whole.ensures ∙ ap (memory_whole c.args.head) c.sizes.ensures) ∙ c.if-not-memory_whole.false) in record {
       counted_in_bounds = omega (arith, w.behind, ap (length {A = ℕ}) c.source_tags-tags.ensures);
       counted_in_bounds_2 = w.held;
@@ -53,7 +53,7 @@ write_text-n-requires c =
 pub returns-then-room-n : goal.returns-then-room-n
 unfolding refusal_of
 returns-then-room-n c =
-    let whole = read_answered c.args.head c.read_asked.result _ c.in_ok-read_asked.was c.read_asked.ensures in
+    let whole = read_answered c.args.head c.args.lent.now.offsets.now c.read_asked.result _ c.in_ok-read_asked.was c.read_asked.ensures in
     let e = c.write_text-n.ensures in
     let t : text c.args.head c.source_tags-tags.result.now c.args.lent.now.counted.now ≡ lines c.args.head (read_rows c.args.lent.now) c.args.lent.now.counted.now =
     ap (λ (x : List ℕ). text c.args.head x c.args.lent.now.counted.now) c.source_tags-tags.ensures in
@@ -67,7 +67,7 @@ returns-then-room-n c =
 
 pub returns : goal.returns
 returns c =
-    let whole = read_answered c.args.head c.read_asked.result _ c.in_ok-read_asked.was c.read_asked.ensures in
+    let whole = read_answered c.args.head c.args.lent.now.offsets.now c.read_asked.result _ c.in_ok-read_asked.was c.read_asked.ensures in
     let e = c.write_text-n.ensures in
     let t : text c.args.head c.source_tags-tags.result.now c.args.lent.now.counted.now ≡ lines c.args.head (read_rows c.args.lent.now) c.args.lent.now.counted.now =
     ap (λ (x : List ℕ). text c.args.head x c.args.lent.now.counted.now) c.source_tags-tags.ensures in

@@ -8,6 +8,6 @@ use Rattle.trial.proofs.start.Goals as goal
 pub returns-clause-value : goal.returns-clause-value
 returns-clause-value c =
     start_step (state c.args.t (lent_memory c.args.lent.now c.args.histogram.now) (seen c.args.page.now))
-    c.args.l c.start-s.result _ _ _ _ _ c.into.ensures c.into-2.ensures
-    (simp (c.read.ensures.tags_read, c.read.ensures.units_read, c.read.ensures.uses_read, c.read.ensures.counted_read) at c.start-s.ensures.same_but_nan_bits)
+    c.args.l c.start-s.result _ _ _ _ _ _ _ c.into.ensures c.into-2.ensures
+    c.start-s.ensures.same_but_nan_bits c.start-s.ensures.counted_after
     c.put_begin.ensures.value c.has_begun.ensures

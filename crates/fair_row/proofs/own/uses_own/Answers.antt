@@ -1,5 +1,5 @@
 use Rattle.fair_row.specs.Replay.{own_used}
-use Rattle.fair_row.proofs.Watched.{some_is}
+use Rattle.fair_row.proofs.Watched.{searchable}
 use mathlib.Core.Path.{sym, ap, ◌∙◌}
 use Rattle.std.specs.Option.{is_some}
 use borrow.Author.Tests.{lt-ltb, le-ltb}
@@ -16,19 +16,26 @@ returns-then-head c =
     let head = c.args.head in
     simp (sym c.is_overflow.ensures ∙ c.if-is_overflow.false, lt-ltb head.tracked head.unit_room (omega (arith, c.if-head.true)))
 
-pub returns-then-lent-head : goal.returns-then-lent-head
+pub returns-then-not-is_held : goal.returns-then-not-is_held
 unfolding own_used
-returns-then-lent-head c =
-    simp (sym c.is_overflow.ensures ∙ c.if-is_overflow.false, le-ltb _ _ c.if-head.false, lt-ltb _ _ c.if-lent-head.true)
+returns-then-not-is_held c =
+    simp (sym c.is_overflow.ensures ∙ c.if-is_overflow.false, le-ltb _ _ c.if-head.false, sym c.is_held.ensures ∙ c.if-not-is_held.true)
 
-pub returns-then-lent-head-2 : goal.returns-then-lent-head-2
-unfolding own_used
-returns-then-lent-head-2 c =
-    simp (sym c.is_overflow.ensures ∙ c.if-is_overflow.false, le-ltb _ _ c.if-head.false, le-ltb _ _ c.if-lent-head.false, lt-ltb _ _ c.if-lent-head-2.true)
+pub find_in-requires-clause-some : goal.find_in-requires-clause-some
+find_in-requires-clause-some c = (searchable c.args.head _ _ _ c.is_held.ensures c.if-not-is_held.false).some
+
+pub find_in-requires-clause-whole : goal.find_in-requires-clause-whole
+find_in-requires-clause-whole c = (searchable c.args.head _ _ _ c.is_held.ensures c.if-not-is_held.false).whole
+
+pub find_in-requires-clause-tags_room : goal.find_in-requires-clause-tags_room
+find_in-requires-clause-tags_room c = (searchable c.args.head _ _ _ c.is_held.ensures c.if-not-is_held.false).tags
+
+pub find_in-requires-clause-slots_room : goal.find_in-requires-clause-slots_room
+find_in-requires-clause-slots_room c = (searchable c.args.head _ _ _ c.is_held.ensures c.if-not-is_held.false).slots
 
 pub returns : goal.returns
 unfolding own_used
 returns c =
     let over = sym c.is_overflow.ensures ∙ c.if-is_overflow.false in
-    simp (over, le-ltb _ _ c.if-head.false, le-ltb _ _ c.if-lent-head.false, le-ltb _ _ c.if-lent-head-2.false)
-    (c.is_some.ensures ∙ ap is_some (rw c.name_of-name.ensures at c.find_in.ensures.value) ∙ some_is _ _)
+    simp (over, le-ltb _ _ c.if-head.false, sym c.is_held.ensures ∙ c.if-not-is_held.false)
+    (c.is_some.ensures ∙ ap is_some (rw c.name_of-name.ensures at c.find_in.ensures.value _ _))

@@ -1,0 +1,12 @@
+-- `scan_visit::walk_rest` meets its contract. Assumes nothing.
+use Rattle.std.proofs.Common.{◌≡◌, ◌-◌}
+use Rattle.parts.specs.Held.{held}
+use Rattle.wants.specs.Held.{wants_held, SameArrays}
+use Rattle.scan_visit.specs.Visiting.{walk}
+use Rattle.scan_visit.proofs.walk_rest.Given as goal
+
+abbrev pub invariant-loop-i : goal.invariant-loop-i
+invariant-loop-i l = record {
+  sums : wants_held l.histogram ≡ walk (held l.parts) l.at_ms l.from (l.i - l.from) (wants_held l.initial.histogram);
+  arrays : SameArrays l.initial.histogram l.histogram;
+}

@@ -1,3 +1,0 @@
--- Retain: the pass that drops stale records. Laws: what stays of the records.
-pub mod Retain
-pub mod Laws
