@@ -36,13 +36,12 @@ pub record Fit (m : Rows) (n room : ℕ) : Type 0 where
   pub whole : Whole m.offsets n
 
 -- ---- a record comes in
-whole_added : (m : Rows) (n : ℕ) (name : Name) (u : Use) → length m.offsets ≡ 65 → Whole m.offsets n → table_of_tag name.tag < 64 → Whole (added m n name u).offsets (n + 1)
-unfolding added
-whole_added m n name u l w h = whole_raised m.offsets (added m n name u).offsets n (table_of_tag name.tag) l w h refl
-
 fit_added : (m : Rows) (n room : ℕ) (name : Name) (u : Use) → Fit m n room → n < room → table_of_tag name.tag < 64 → Fit (added m n name u) (n + 1) room
-fit_added m n room name u f l h = record { sized = sized; units = units; used = omega arith; long = long; whole = whole_added m n name u f.long f.whole h }
+fit_added m n room name u f l h = record { sized = sized; units = units; used = omega arith; long = long; whole = whole }
   where
+    whole : Whole (added m n name u).offsets (n + 1)
+    whole = unfold added in whole_raised m.offsets _ n (table_of_tag name.tag) f.long f.whole h refl
+
     under : end m (table_of_tag name.tag) ≤ n
     under = whole_below m.offsets n f.whole (table_of_tag name.tag + 1) (omega arith)
 
@@ -166,10 +165,7 @@ module _ (m : Rows) (n room t now : ℕ) (f : Fit m n room) (h : t < 64) where
 
   whole : Whole (dropped m n t now).offsets (left m n t now)
   unfolding dropped
-  whole =
-      let c = counted m n t now f.sized held low inside in
-      let r = low in
-      whole_lowered m.offsets (dropped m n t now).offsets n t (length (gone m t now)) f.long f.whole h (omega arith) refl
+  whole = whole_lowered m.offsets _ n t (length (gone m t now)) f.long f.whole h (omega (arith, low, counted m n t now f.sized held low inside)) refl
 
   pub fit_dropped : Fit (dropped m n t now) (left m n t now) room
   fit_dropped = record {

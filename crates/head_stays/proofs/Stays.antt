@@ -38,7 +38,7 @@ use Rattle.head_stays.proofs.Parts.{Fit, fit_entry, fit_back, fit_tags}
 use Rattle.head_stays.proofs.Whole.{Kept, scanned_kept, start_whole, start_keeps, judge_memory, cut_memory, memory_counted}
 
 -- ---- the record
-judged_kept : (h : Shedder) (m : Rows) (u : Unit) (cost : List Float) (now : ℕ) → Kept h m → now < 9007199254740992 → Kept (judged h m u cost now).head (judged h m u cost now).rows
+pub judged_kept : (h : Shedder) (m : Rows) (u : Unit) (cost : List Float) (now : ℕ) → Kept h m → now < 9007199254740992 → Kept (judged h m u cost now).head (judged h m u cost now).rows
 unfolding judged flowed
 judged_kept h m u cost now k p =
     let w = k.head in
@@ -62,7 +62,7 @@ judged_kept h m u cost now k p =
       rows = fit_back e.rows h.overflow e.place.tracked h.unit_room e.place.at (outcome_at h u cost now e).used f;
     }
 
-handed_kept : (h : Shedder) (m : Rows) (u : Unit) (cost : List Float) → Kept h m → Kept (handed_back (kept_by h m) u cost).head (handed_back (kept_by h m) u cost).rows
+pub handed_kept : (h : Shedder) (m : Rows) (u : Unit) (cost : List Float) → Kept h m → Kept (handed_back (kept_by h m) u cost).head (handed_back (kept_by h m) u cost).rows
 unfolding handed_back flowed_back
 handed_kept h m u cost k =
     let w = k.head in
@@ -142,7 +142,7 @@ tallied_tags h i k n cause receptions l =
     omega (arith, length-append (take h.unit_room i) (counts.pruned_tags (counts.count (drop h.unit_room i) k h.counted n cause) (counts.count_tags (drop h.unit_room i) k h.counted n)), length-take-le h.unit_room i l)
 
 -- with the lists of records, whose tags those of the tally are
-abbrev Told : Rows → Tally → Type 0
+abbrev pub Told : Rows → Tally → Type 0
 Told m t = Kept t.head (with_tags m t.tags)
 
 tallied_kept : (h : Shedder) (m : Rows) (k : List (List ℕ)) (n : Name) (cause receptions : ℕ) → Kept h m → length k ≡ h.counted_room → Told m (tallied (tally h m.tags k) n cause receptions)
@@ -158,21 +158,21 @@ cond_tally : (m : Rows) (b : Bool) (x y : Tally) → Told m x → Told m y → T
 cond_tally m true x y p q = p
 cond_tally m false x y p q = q
 
-counted_kept : (h : Shedder) (m : Rows) (k : List (List ℕ)) (n : Name) (v : Verdict) (cost : List ℕ) → Kept h m → length k ≡ h.counted_room → Told m (count_verdict (tally h m.tags k) n v cost)
+pub counted_kept : (h : Shedder) (m : Rows) (k : List (List ℕ)) (n : Name) (v : Verdict) (cost : List ℕ) → Kept h m → length k ≡ h.counted_room → Told m (count_verdict (tally h m.tags k) n v cost)
 unfolding count_verdict
 counted_kept h m k n v cost w e =
     cond_tally m (is_admitted v) (tally h m.tags k) (tallied (tally h m.tags k) n (cause_of v) (get_or cost 0 0)) w (tallied_kept h m k n (cause_of v) (get_or cost 0 0) w e)
 
 -- ---- a judgement
-judged_room : (h : Shedder) (m : Rows) (u : Unit) (cost : List Float) (now : ℕ) → (judged h m u cost now).head.counted_room ≡ h.counted_room
+pub judged_room : (h : Shedder) (m : Rows) (u : Unit) (cost : List Float) (now : ℕ) → (judged h m u cost now).head.counted_room ≡ h.counted_room
 unfolding judged
 judged_room h m u cost now = refl
 
-latest : (a b : ℕ) → a < 9007199254740992 → b < 9007199254740992 → max a b < 9007199254740992
+pub latest : (a b : ℕ) → a < 9007199254740992 → b < 9007199254740992 → max a b < 9007199254740992
 latest a b p q = omega (arith, p, q)
 
 -- what the questions show, as it is kept
-kept_of : (h : Shedder) (m : Rows) (k : List (List ℕ)) → Long m → whole_with h m.offsets ≡ true → CutReady h (sizes_of m k) m.offsets → Kept h m
+pub kept_of : (h : Shedder) (m : Rows) (k : List (List ℕ)) → Long m → whole_with h m.offsets ≡ true → CutReady h (sizes_of m k) m.offsets → Kept h m
 kept_of h m k l e w =
     let x = with_of h m.offsets e in
     record {

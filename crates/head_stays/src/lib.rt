@@ -1,2 +1,3 @@
-// No code: the head stays whole through every call that writes it. To read: specs/Whole, the statement; proofs/Stays, `stays`.
+// No code: the head stays whole, and the store well, through every call that writes them. To read: specs/Whole, Ranges and Homed, the
+// statements; proofs/Stays, `stays`; proofs/Homed, `homes`.
 #![tactic(auto)]
