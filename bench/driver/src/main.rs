@@ -1,5 +1,5 @@
 //! Times `judge` and the report of the original Rust and of this, in one process, on the same sequence, and prints a table.
-//! With the word `churn` it times senders that come and go instead.
+//! With the word `churn` it times senders that come and go instead, with the word `visits` the visits of one table.
 #![allow(dead_code, unused_parens)]
 mod churn;
 mod group;
@@ -7,6 +7,7 @@ mod key;
 mod report;
 mod shed;
 mod tankpost;
+mod visits;
 use group::Group;
 use key::PublicKey;
 use report::text_of;
@@ -168,8 +169,10 @@ fn reporting(turns: usize) -> [f64; 3] {
 }
 
 fn main() {
-    if std::env::args().nth(1).as_deref() == Some("churn") {
-        return churn::table();
+    match std::env::args().nth(1).as_deref() {
+        Some("churn") => return churn::table(),
+        Some("visits") => return visits::table(),
+        _ => {}
     }
     println!("| What | Rust, ns a call | here, ns a call | here / Rust | admitted, Rust and here |");
     println!("|---|---|---|---|---|");
