@@ -27,13 +27,13 @@ use Rattle.parts.specs.Parts.{Rows, is_at, find, slot_at}
 use Rattle.parts.specs.Laws.{Well, Every, record_at, with_use}
 use Rattle.parts.proofs.Laws.{comes, puts, leave}
 use Rattle.parts.proofs.Begun.{starts}
-use Rattle.parts.proofs.Searching.{searches}
+use Rattle.parts.proofs.Searching.{searches, lies}
 use Rattle.wants.specs.Wants.{Hist}
 use Rattle.head.specs.declared.Shedder.{Shedder}
 use Rattle.head.specs.Questions.{start_asked}
 use Rattle.head.specs.Start.{start}
 use Rattle.store_entry.specs.Own.{name_at, At}
-use Rattle.store_entry.proofs.Own.{table_below}
+use Rattle.store_entry.proofs.Own.{table_below, named_is, is_named}
 use Rattle.head_stays.specs.Homed.{Known, Lasts, Same, reads_as, Homes}
 use Rattle.head_stays.proofs.Lasting.{Steps, lasts}
 
@@ -153,17 +153,7 @@ refused h m k g rate ceiling n = go (eqb (start_asked rate (sizes_of m k)) 0) re
     go true e = absurd (n (eqb-true (start_asked rate (sizes_of m k)) 0 e))
     go false e = rw e (refl, refl)
 
--- ---- every place below the end lies in a part
-lies : (os : List ℕ) (n k : ℕ) → Whole os n → k < n → (t : ℕ) × (t < 64) × (get_or os t 0 ≤ k) × (k < get_or os (t + 1) 0)
-lies os n k w h = from 64 (omega arith) (omega (arith, w.ends))
-  where
-    from : (i : ℕ) → i ≤ 64 → k < get_or os i 0 → (t : ℕ) × (t < 64) × (get_or os t 0 ≤ k) × (k < get_or os (t + 1) 0)
-    from zero a b = absurd (omega (arith, w.begins))
-    from (suc i) a b = elim (dec_le (get_or os i 0) k) [
-      | yes x ↦ (i, omega arith, x, subst (λ (j : ℕ). k < get_or os j 0) (sym (add-one i)) b)
-      | no x ↦ from i (omega arith) (omega arith)
-    ]
-
+-- ---- each record lies in the part of its unit's table
 home : (Q : Unit → Type 0) (m : Rows) (n k : ℕ) (s : Known Q m n) (l : k < n) → At m (s.named k l).unit k
 home Q m n k s l =
     let b = s.named k l in
@@ -183,19 +173,6 @@ tells m u k = record {
 }
 
 -- ---- the search: a record passes its test exactly if it has the name, and so exactly if it reads as the unit
-named_is : (m : Rows) (name : Name) (k : ℕ) → name_at m k ≡ name → is_at m name k ≡ true
-unfolding is_at has_tag
-named_is m name k e =
-    subst (λ (n : Name). (eqb (get_or m.tags k 0) n.tag && same (words_at m.units (slot_at m k)) n.words) ≡ true) e
-    (simp (eq-eqb (get_or m.tags k 0) (get_or m.tags k 0) refl, words_self (words_at m.units (slot_at m k))))
-
-is_named : (m : Rows) (name : Name) (k : ℕ) → is_at m name k ≡ true → name_at m k ≡ name
-unfolding is_at has_tag
-is_named m name k e =
-    let a = and_parts (eqb (get_or m.tags k 0) name.tag) _ e in
-    name_ext (get_or m.tags k 0) name.tag (words_at m.units (slot_at m k)) name.words (eqb-true (get_or m.tags k 0) name.tag a.0)
-    (words_same (words_at m.units (slot_at m k)) name.words a.1)
-
 alike : (b c : Bool) → (b ≡ true → c ≡ true) → (c ≡ true → b ≡ true) → b ≡ c
 alike true c f g = sym (f refl)
 alike false true f g = g refl

@@ -60,7 +60,7 @@ words_at units i = record {
   d = get_or (unit_row units i) 4 0;
 }
 
--- the name that a record holds
+-- the name that the tag and the row at i make: a counted record's, whose row stands at its tag's place
 abbrev pub name_at : List ℕ → List (List ℕ) → ℕ → Name
 name_at tags units i = record { tag = get_or tags i 0; words = words_at units i }
 
@@ -98,7 +98,3 @@ None p i j = (k : ℕ) → i ≤ k → k < j → p k ≡ false
 
 unfoldable pub has_tag : List ℕ → ℕ → ℕ → Bool
 has_tag tags tag i = eqb (get_or tags i 0) tag
-
--- the lower 16 bits of a number
-abbrev pub lower : ℕ → ℕ
-lower n = n % 2 ^ 16

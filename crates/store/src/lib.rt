@@ -60,7 +60,7 @@ pub fn words_at<const N: usize>(rows: &[[u64; N]], i: usize) -> Words
     }
 }
 
-// The unit that the record at i reads as.
+// The unit that the counted record at i reads as, by its tag and its row.
 #[tactic(auto, unfolding(crate::specs::Store::unit_at))]
 pub fn unit_at<const N: usize>(tags: &[u16], rows: &[[u64; N]], i: usize) -> Unit
     requires tag_in_bounds { i < length tags.now }

@@ -44,13 +44,13 @@ unfolding name_by_hash
 table_below u = let h = hash_below u in let e = tag_table (hash_of u) ∙ table_is (hash_of u) in omega arith
 
 -- ---- a record passes the search's test exactly if it holds the name
-named_is : (m : Rows) (name : Name) (i : ℕ) → name_at m i ≡ name → is_at m name i ≡ true
+pub named_is : (m : Rows) (name : Name) (i : ℕ) → name_at m i ≡ name → is_at m name i ≡ true
 unfolding is_at has_tag
 named_is m name i e =
     subst (λ (n : Name). (eqb (get_or m.tags i 0) n.tag && same (words_at m.units (slot_at m i)) n.words) ≡ true) e
     (simp (eq-eqb (get_or m.tags i 0) (get_or m.tags i 0) refl, words_self (words_at m.units (slot_at m i))))
 
-is_named : (m : Rows) (name : Name) (i : ℕ) → is_at m name i ≡ true → name_at m i ≡ name
+pub is_named : (m : Rows) (name : Name) (i : ℕ) → is_at m name i ≡ true → name_at m i ≡ name
 unfolding is_at has_tag
 is_named m name i e =
     let a = and_parts (eqb (get_or m.tags i 0) name.tag) _ e in

@@ -12,7 +12,7 @@ use Rattle.parts.specs.Held.{Sized}
 use Rattle.parts.specs.Laws.{Sound, Homed, record_at}
 use Rattle.store_entry.specs.Entering.{Entered, entered, place, entry}
 
--- the name that the record at i holds
+-- the name that the record of the entry at i holds
 abbrev pub name_at : Rows → ℕ → Name
 name_at m i = record { tag = get_or m.tags i 0; words = words_at m.units (slot_at m i) }
 
