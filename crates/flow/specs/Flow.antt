@@ -52,6 +52,14 @@ refilled b elapsed = record {
   rate_per_ms = b.rate_per_ms;
 }
 
+-- at another rate and ceiling: burst and rate per millisecond as at a start, and of the tokens no more than the burst
+abbrev pub turned : Bucket → ℕ → ℕ → Bucket
+turned b rate ceiling = record {
+  tokens = least b.tokens (burst_of rate ceiling);
+  burst = burst_of rate ceiling;
+  rate_per_ms = whole rate ⊘ thousand;
+}
+
 abbrev pub spent : Bucket → Float → Bucket
 spent b cost = record { tokens = b.tokens ⊖ cost; burst = b.burst; rate_per_ms = b.rate_per_ms }
 
@@ -161,6 +169,9 @@ bucket_at bs d = slice_index_or bs d (record { tokens = Ieee.nan; burst = Ieee.n
 
 abbrev pub refilled_all : List Bucket → ℕ → List Bucket
 refilled_all bs elapsed = upto (λ (d : ℕ). refilled (bucket_at bs d) elapsed) dims bs
+
+abbrev pub turned_all : List Bucket → List ℕ → List ℕ → List Bucket
+turned_all bs rate ceiling = upto (λ (d : ℕ). turned (bucket_at bs d) (slice_index rate d) (slice_index ceiling d)) dims bs
 
 abbrev pub spent_all : List Bucket → List Float → List Bucket
 spent_all bs cost = upto (λ (d : ℕ). spent (bucket_at bs d) (at cost d)) dims bs

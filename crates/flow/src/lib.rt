@@ -177,6 +177,17 @@ impl Bucket {
         self
     }
 
+    // At another rate and ceiling: burst and rate per millisecond as at a start, and of the tokens no more than the burst.
+    pub fn turned(self, rate: u64, ceiling: u64) -> Bucket
+        ensures { result ≡ flow.turned self rate ceiling }
+    {
+        let full = Bucket::new(rate, ceiling);
+        Bucket {
+            tokens: ieee::min(self.tokens, full.burst),
+            ..full
+        }
+    }
+
     // An admitted batch takes its cost.
     pub fn spent(mut self, cost: f64) -> Bucket
         ensures { result ≡ flow.spent self cost }
@@ -308,7 +319,13 @@ pub fn refilled_all(buckets: [Bucket; DIMS], elapsed: u64) -> [Bucket; DIMS]
     per_dim(|d| buckets[d].refilled(elapsed))
 }
 
-// One shape with the other two, which is `per_dim`; each is another method, with a definition of its own.
+pub fn turned_all(buckets: [Bucket; DIMS], rate: [u64; DIMS], ceiling: [u64; DIMS]) -> [Bucket; DIMS]
+    ensures { result ≡ flow.turned_all buckets rate ceiling }
+{
+    per_dim(|d| buckets[d].turned(rate[d], ceiling[d]))
+}
+
+// One shape with the others, which is `per_dim`; each is another method, with a definition of its own.
 pub fn spent_all(buckets: [Bucket; DIMS], cost: [f64; DIMS]) -> [Bucket; DIMS]
     ensures { result ≡ flow.spent_all buckets cost }
 {

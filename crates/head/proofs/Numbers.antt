@@ -1,7 +1,7 @@
 -- A refusal and its number, both ways. Assumes nothing.
 use Rattle.std.proofs.Common.{◌≡◌, refl, sym, ap, ◌∙◌, ℕ, zero, suc, ◌≤◌, arith, Bool, cond, eqb, Result, Ok, Err, ne_eqb, eq-eqb}
 use Rattle.head.specs.declared.Refusal.{Refusal}
-use Rattle.head.specs.declared.Refusal.TheVariants.{Rates, Sizes, Head, Memory, Cost, Stamp, Buffer}
+use Rattle.head.specs.declared.Refusal.TheVariants.{Rates, Sizes, Head, Memory, Cost, Stamp, Buffer, Unbounded}
 use Rattle.head.specs.Answers.{number_of, refusal_of, refused, answer_number, Inverse}
 
 pub refusal_back : (r : Refusal) → refusal_of (number_of r) ≡ r
@@ -13,6 +13,7 @@ refusal_back Memory = refl
 refusal_back Cost = refl
 refusal_back Stamp = refl
 refusal_back Buffer = refl
+refusal_back Unbounded = refl
 
 pub number_there : (n : ℕ) → 1 ≤ n → n ≤ 7 → number_of (refusal_of n) ≡ n
 unfolding number_of refusal_of
@@ -26,8 +27,12 @@ number_there (suc (suc (suc (suc (suc (suc (suc zero))))))) p q = refl
 number_there zero p q = absurd (omega arith)
 number_there (suc (suc (suc (suc (suc (suc (suc (suc n)))))))) p q = absurd (omega arith)
 
+ten_there : number_of (refusal_of 10) ≡ 10
+unfolding number_of refusal_of
+ten_there = refl
+
 pub inverse : Inverse
-inverse = record { back = refusal_back; there = number_there }
+inverse = record { back = refusal_back; there = number_there; ten = ten_there }
 
 -- a refusal has a number
 pub number_some : (r : Refusal) → 1 ≤ number_of r
@@ -39,6 +44,7 @@ number_some Memory = omega arith
 number_some Cost = omega arith
 number_some Stamp = omega arith
 number_some Buffer = omega arith
+number_some Unbounded = omega arith
 
 -- the number of an answer that is refused by n; of one that is, or is refused, by n
 pub refused_number : (A : Type 0) (n : ℕ) → 1 ≤ n → n ≤ 7 → answer_number {A = A} (refused n) ≡ n

@@ -2,7 +2,7 @@
 use Rattle.std.specs.Prelude.{ℕ, ◌≤◌, ◌≡◌, ⊤, cond, eqb, Option, Result, Ok, Err, Bool, Float}
 use Rattle.verdict.specs.declared.Verdict.{Verdict}
 use Rattle.head.specs.declared.Refusal.{Refusal}
-use Rattle.head.specs.declared.Refusal.TheVariants.{Rates, Sizes, Head, Memory, Cost, Stamp, Buffer}
+use Rattle.head.specs.declared.Refusal.TheVariants.{Rates, Sizes, Head, Memory, Cost, Stamp, Buffer, Unbounded}
 
 -- a refusal's number
 unfoldable pub number_of : Refusal → ℕ
@@ -13,14 +13,16 @@ number_of Memory = 4
 number_of Cost = 5
 number_of Stamp = 6
 number_of Buffer = 7
+number_of Unbounded = 10
 
--- and the refusal of a number, 1 to 7
+-- and the refusal of a number, 1 to 7 or 10
 unfoldable pub refusal_of : ℕ → Refusal
-refusal_of n = cond (eqb n 1) Rates (cond (eqb n 2) Sizes (cond (eqb n 3) Head (cond (eqb n 4) Memory (cond (eqb n 5) Cost (cond (eqb n 6) Stamp Buffer)))))
+refusal_of n = cond (eqb n 1) Rates (cond (eqb n 2) Sizes (cond (eqb n 3) Head (cond (eqb n 4) Memory (cond (eqb n 5) Cost (cond (eqb n 6) Stamp (cond (eqb n 7) Buffer Unbounded))))))
 
 pub record Inverse : Type 0 where
   pub back : (r : Refusal) → refusal_of (number_of r) ≡ r
   pub there : (n : ℕ) → 1 ≤ n → n ≤ 7 → number_of (refusal_of n) ≡ n
+  pub ten : number_of (refusal_of 10) ≡ 10
 
 -- the answer of a call that is refused by the number n
 abbrev pub refused : {A : Type 0} → ℕ → Result A Refusal
@@ -31,7 +33,7 @@ unfoldable pub answer_number : {A : Type 0} → Result A Refusal → ℕ
 answer_number (Ok x) = 0
 answer_number (Err r) = number_of r
 
--- of a start, a judgement, a cut, a count read, a level, a rate, whether the relay is bounded, a report
+-- of a start, a judgement, a cut, new rates, a count read, a level, a rate, whether the relay is bounded, a report
 abbrev pub start_number : Result ⊤ Refusal → ℕ
 start_number a = answer_number a
 
@@ -40,6 +42,9 @@ judge_number a = answer_number a
 
 abbrev pub cut_number : Result ⊤ Refusal → ℕ
 cut_number a = answer_number a
+
+abbrev pub rates_number : Result ⊤ Refusal → ℕ
+rates_number a = answer_number a
 
 abbrev pub reading_number : Result ℕ Refusal → ℕ
 reading_number a = answer_number a

@@ -1,6 +1,6 @@
--- Document 01's questions 1 to 6, the number of the first answered no at each call, and what they show once all are answered yes. Definitions only.
+-- Document 01's questions 1 to 6 and document 02's 10, the number of the first answered no at each call, and what they show once all are answered yes. Definitions only.
 -- Definitions are shut (`unfoldable`): a proof opens the one that it is about.
-use Rattle.std.specs.Prelude.{ℕ, ◌+◌, ◌^◌, ◌≤◌, ◌<◌, ◌≡◌, Bool, false, ◌&&◌, cond, ◌||◌, List, eqb, leb, ltb, get_or}
+use Rattle.std.specs.Prelude.{ℕ, ◌+◌, ◌^◌, ◌≤◌, ◌<◌, ◌≡◌, Bool, false, not, ◌&&◌, cond, ◌||◌, List, eqb, leb, ltb, get_or}
 use Rattle.flow.specs.Flow.{all, dims, «UNBOUNDED», RATE_MOST}
 use Rattle.sender.specs.Sender.{«TABLES»}
 use Rattle.shifting.specs.Offsets.{Whole, is_whole}
@@ -88,7 +88,11 @@ memory_whole h s = tags_whole s && (slots_whole s && (eqb s.units h.unit_room &&
 unfoldable pub costs_held : List ℕ → Bool
 costs_held xs = all (λ (d : ℕ). leb (get_or xs d 0) COST_MOST) dims
 
--- ---- the number of the first question answered no, else 0: at a start, a judgement, a cut, a reading; by the lengths of the lent slices and the offsets
+-- ---- question 10: the running rates and the new ones are bounded
+unfoldable pub both_bounded : List ℕ → List ℕ → Bool
+both_bounded running rate = not (is_unbounded running) && not (is_unbounded rate)
+
+-- ---- the number of the first question answered no, else 0: at a start, a judgement, a cut, a call of new rates, a reading; by the lengths of the lent slices and the offsets
 unfoldable pub start_asked : List ℕ → Sizes → ℕ
 start_asked rate s = cond (rates_whole rate) (cond (sizes_whole s) 0 2) 1
 
@@ -97,6 +101,10 @@ judge_asked h s os cost stamp = cond (whole_with h os) (cond (memory_whole h s) 
 
 unfoldable pub cut_asked : Shedder → Sizes → List ℕ → List ℕ → ℕ
 cut_asked h s os cost = cond (whole_with h os) (cond (memory_whole h s) (cond (costs_held cost) 0 5) 4) 3
+
+unfoldable pub rates_asked : Shedder → Sizes → List ℕ → List ℕ → ℕ → ℕ
+rates_asked h s os rate stamp =
+    cond (whole_with h os) (cond (memory_whole h s) (cond (rates_whole rate) (cond (is_stamp stamp) (cond (both_bounded h.flow.rate rate) 0 10) 6) 1) 4) 3
 
 unfoldable pub read_asked : Shedder → List ℕ → ℕ
 read_asked h os = cond (whole_with h os) 0 3

@@ -96,6 +96,8 @@ pub enum Refusal {
     Stamp = 6,
     // the report: the room in its buffer
     Buffer = 7,
+    // new rates: that they and the running ones are bounded
+    Unbounded = 10,
 }
 
 impl From<Refusal> for u64 {
@@ -286,6 +288,40 @@ pub fn cut_asked(
     }
     if !costs_held(cost) {
         return Err(Refusal::Cost);
+    }
+    Ok(())
+}
+
+// Question 10: a relay with no bound gets none, and none loses its bound.
+#[tactic(auto, unfolding(crate::specs::Questions::both_bounded))]
+fn both_bounded(running: [u64; DIMS], rate: [u64; DIMS]) -> bool
+    ensures { result ≡ asked.both_bounded running rate }
+{
+    !is_unbounded(running) && !is_unbounded(rate)
+}
+
+#[tactic(auto, unfolding(crate::specs::Questions::rates_asked, crate::specs::Questions::read_asked, crate::specs::Answers::answer_number, crate::specs::Answers::number_of))]
+pub fn rates_asked(
+    h: Shedder,
+    sizes: Sizes,
+    offsets: &[u32; OFFSETS],
+    to: [u64; DIMS],
+    stamp: u64,
+) -> Result<(), Refusal>
+    ensures { answers.answer_number result ≡ asked.rates_asked h sizes offsets.now to stamp }
+{
+    read_asked(h, offsets)?;
+    if !memory_whole(h, sizes) {
+        return Err(Refusal::Memory);
+    }
+    if !rates_whole(to) {
+        return Err(Refusal::Rates);
+    }
+    if !is_stamp(stamp) {
+        return Err(Refusal::Stamp);
+    }
+    if !both_bounded(h.flow.rate, to) {
+        return Err(Refusal::Unbounded);
     }
     Ok(())
 }
