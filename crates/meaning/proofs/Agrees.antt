@@ -1,6 +1,6 @@
 -- The calls of the page are those of the contracts. Assumes nothing.
 use mathlib.Core.Path.{◌≡◌, refl}
-use mathlib.Core.Bool.{Bool, true, false, cond}
+use mathlib.Core.Bool.{Bool, true, false, cond, not, ◌&&◌}
 use mathlib.Core.List.{List, [], ◌∷◌, ◌++◌}
 use Prim.Native.Nat.{ℕ}
 use lib.Dec.{eqb, leb}
@@ -22,10 +22,11 @@ use Rattle.head.specs.Readings.{index_of}
 use Rattle.judge.specs.Judging as judging
 use Rattle.judge.specs.Judging.{Memory, judge_ends}
 use Rattle.cut.specs.Cutting as cutting
+use Rattle.rates.specs.Rates as rates
 use Rattle.report.specs.Report as reports
 use Rattle.meaning.specs.State.{after, ask}
 use Rattle.meaning.specs.Page as page
-use Rattle.meaning.specs.Agrees.{of, started, judged, cut, start_with, report_with, front_with, asked_with, Agrees}
+use Rattle.meaning.specs.Agrees.{of, started, judged, cut, changed, start_with, report_with, front_with, asked_with, Agrees}
 use Rattle.meaning.proofs.Asked.{unbounded_is, rates_is, stamp_is, costs_is, head_is, memory_is, sizes_is}
 use Rattle.meaning.proofs.Judged.{counted_is, handed_is, kept}
 use Rattle.meaning.proofs.Bounded.{memory_whole, bounded_is, rule_is, hands_is}
@@ -83,6 +84,24 @@ cut_is h m u c cost =
     go true true false e = refl
     go true false c' e = refl
     go false b c' e = refl
+
+-- ---- new rates
+change_is : (h : Shedder) (m : Memory) (rate ceiling : List ℕ) (stamp : ℕ)
+    → page.set_rates (of h m) rate ceiling stamp ≡ changed m (rates.set_rates h m.rows m.counted rate ceiling stamp)
+unfolding page.set_rates page.rates_asks page.clock_by page.turned page.opened rates.set_rates rates.turned asked.rates_asked asked.both_bounded
+change_is h m rate ceiling stamp =
+    let s = of h m in
+    rw (head_is h m.rows.offsets, memory_is s, rates_is rate, stamp_is stamp, unbounded_is h.flow.rate, unbounded_is rate)
+    (go (asked.whole_with h m.rows.offsets) (memory_whole h m) (asked.rates_whole rate) (asked.is_stamp stamp) (not (asked.is_unbounded h.flow.rate) && not (asked.is_unbounded rate)) _)
+  where
+    go : (a b c d e : Bool) (x : Shedder) → ask ((3, a) ∷ (4, b) ∷ (1, c) ∷ (6, d) ∷ (10, e) ∷ []) (λ n. after (refused n) (of h m)) (after (Ok tt) (of x m))
+        ≡ changed m (cond (eqb (cond a (cond b (cond c (cond d (cond e 0 10) 6) 1) 4) 3) 0) (rates.change_ends (Ok tt) x) (rates.change_ends (refused (cond a (cond b (cond c (cond d (cond e 0 10) 6) 1) 4) 3)) h))
+    go true true true true true x = refl
+    go true true true true false x = refl
+    go true true true false e x = refl
+    go true true false d e x = refl
+    go true false c d e x = refl
+    go false b c d e x = refl
 
 -- ---- report
 module _ (h : Shedder) (m : Memory) (out : List ℕ) where
@@ -156,6 +175,7 @@ agrees = record {
   judge_is = judge_is;
   rule_is = rule_is;
   cut_is = cut_is;
+  rates_is = change_is;
   report_is = report_is;
   front_is = front_is;
   refusal_is = refusal_is;

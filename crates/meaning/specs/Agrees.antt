@@ -6,6 +6,7 @@ use Rattle.head.specs.Readings as readings
 use Rattle.judge.specs.Judging as judging
 use Rattle.judge.specs.Judging.{Memory}
 use Rattle.cut.specs.Cutting as cutting
+use Rattle.rates.specs.Rates as rates
 use Rattle.report.specs.Report as reports
 use Rattle.meaning.specs.State.{State, After, after, Shedder, Unit, Cause, Dim, Begin, Answer, Done}
 use Rattle.meaning.specs.Page as page
@@ -22,6 +23,9 @@ judged j = after j.answer (of j.head j.memory)
 
 abbrev pub cut : Hist → cutting.Cut → After Done
 cut g c = after c.answer (record { head = c.head; rows = c.rows; hist = g; counted = c.counted })
+
+abbrev pub changed : Memory → rates.Changed → After Done
+changed m c = after c.answer (of c.head m)
 
 abbrev pub start_with : Shedder → Memory → (rate ceiling : List ℕ) → starts.Beginning
 start_with h m rate ceiling = starts.start h m.rows m.counted m.hist rate ceiling
@@ -40,6 +44,8 @@ pub record Agrees : Type 0 where
   pub judge_is : (h : Shedder) (m : Memory) (u : Unit) (cost : List ℕ) (stamp : ℕ) → page.judge (of h m) u cost stamp ≡ judged (judging.judge h m u cost stamp)
   pub rule_is : (h : Shedder) (m : Memory) (u : Unit) (cost : List ℕ) (stamp : ℕ) → page.judge_rule (of h m) u cost stamp ≡ judging.ruling h m u cost stamp
   pub cut_is : (h : Shedder) (m : Memory) (u : Unit) (c : Cause) (cost : List ℕ) → page.cut (of h m) u c cost ≡ cut m.hist (cutting.cut h m.rows m.counted u c cost)
+  pub rates_is : (h : Shedder) (m : Memory) (rate ceiling : List ℕ) (stamp : ℕ)
+      → page.set_rates (of h m) rate ceiling stamp ≡ changed m (rates.set_rates h m.rows m.counted rate ceiling stamp)
   pub report_is : (h : Shedder) (m : Memory) (out : List ℕ) → reports.ends (page.report (of h m) out).answer (page.report (of h m) out).out ≡ report_with h m out
   pub front_is : (h : Shedder) (m : Memory) (out : List ℕ) → (page.report (of h m) out).front ≡ front_with h m (length out)
   pub refusal_is : (h : Shedder) (m : Memory) (out : List ℕ) → page.report_refusal (of h m) out ≡ asked_with h m (length out)

@@ -183,6 +183,10 @@ decided want credit tokens reserve =
     (cond (not credit) verdict.OverShare (cond (not tokens) verdict.RelayRate verdict.Admitted))
     (cond (credit && tokens && reserve) verdict.Admitted verdict.OverShare)
 
+-- the buckets after so many milliseconds
+abbrev pub refilled_for : List Bucket → (elapsed : ℕ) → List Bucket
+refilled_for buckets elapsed = each buckets λ d. let b = bucket_at buckets d in with_tokens b (least (b.tokens ⊕ whole elapsed ⊗ b.rate_per_ms) b.burst)
+
 -- what a batch meets on a record: the buckets refilled, the credit, what was tried with this batch, the want, and the mark that a want over the level must leave
 pub record Met : Type 0 where
   pub buckets : List Bucket
@@ -194,7 +198,7 @@ pub record Met : Type 0 where
 -- refill, credit, weigh, fade, add
 unfoldable pub met : Flow → (level : List Float) → Use → (rank : Float) (cost : List Float) (clock : ℕ) → Met
 met f level u rank cost clock =
-    let refilled = each f.buckets λ d. let b = bucket_at f.buckets d in with_tokens b (least (b.tokens ⊕ whole (clock - f.at_ms) ⊗ b.rate_per_ms) b.burst) in
+    let refilled = refilled_for f.buckets (clock - f.at_ms) in
     let fresh = is_fresh u.fresh in
     let idle = clock - u.at_ms in
     let fill = parts λ d. least (level ! d) (numbers f.rate ! d) in
@@ -384,6 +388,29 @@ cut s u c cost =
     ask ((3, head_whole s.head s.rows.offsets) ∷ (4, memory_whole s) ∷ (5, costs_held cost) ∷ [])
     (λ n. after (refused n) s)
     (after (Ok tt) (counted back (name_of u) (index_of c) (cost # 0)))
+
+-- ==== New rates: 3, 4, 1, 6, 10, the last of which is that the running rates and the new ones are bounded (document 02, K3)
+-- burst and rate per millisecond as at a start; of the tokens no more than the burst
+unfoldable pub turned : Bucket → (rate ceiling : ℕ) → Bucket
+turned b rate ceiling =
+    let full = opened rate ceiling in
+    record { tokens = least b.tokens full.burst; burst = full.burst; rate_per_ms = full.rate_per_ms }
+
+unfoldable pub rates_asks : State → (rate : List ℕ) (stamp : ℕ) → List (ℕ × Bool)
+rates_asks s rate stamp =
+    (3, head_whole s.head s.rows.offsets) ∷ (4, memory_whole s) ∷ (1, rates_whole rate) ∷ (6, is_stamp stamp) ∷ (10, not (is_unbounded s.head.flow.rate) && not (is_unbounded rate)) ∷ []
+
+-- the clock as at a judgement, the refill up to it at the rates before, then the new ones. Level, records, counts and a scan under way stay
+unfoldable pub set_rates : State → (rate ceiling : List ℕ) (stamp : ℕ) → After Done
+set_rates s rate ceiling stamp =
+    let f = s.head.flow in
+    let clock = clock_by s stamp in
+    let refilled = refilled_for f.buckets (clock - f.at_ms) in
+    let buckets = each refilled λ d. turned (bucket_at refilled d) (rate # d) (ceiling # d) in
+    let flow : Flow = record { rate = rate; ceiling = ceiling; buckets = buckets; at_ms = clock; admitted = f.admitted } in
+    ask (rates_asks s rate stamp)
+    (λ n. after (refused n) s)
+    (after (Ok tt) (with_flow s flow))
 
 -- ==== Report: 3, 4, 7, the last of which is that the whole text fits (document 01: cuts and report)
 -- the state stays; the text goes to the front of the buffer, the bytes behind it stay
