@@ -51,6 +51,10 @@ pub refused_number : (A : Type 0) (n : ℕ) → 1 ≤ n → n ≤ 7 → answer_n
 unfolding answer_number
 refused_number A n p q = number_there n p q
 
+pub refused_ten : (A : Type 0) → answer_number {A = A} (refused 10) ≡ 10
+unfolding answer_number
+refused_ten A = ten_there
+
 pub choice_number : {A : Type 0} (x : A) (n : ℕ) → n ≤ 7 → answer_number (cond (eqb n 0) (Ok x) (refused n)) ≡ n
 unfolding answer_number
 choice_number {A = A} x zero q = refl
