@@ -76,7 +76,7 @@ struct tankpost_unit {
     uint64_t kind, a, b, c, d;
 };
 
-/* What a start or a cut answers: 0, or the number of the refusal. */
+/* What a start, a cut or a call of new rates answers: 0, or the number of the refusal. */
 struct tankpost_answered {
     uint64_t answer;
     struct tankpost_head head;
@@ -149,6 +149,18 @@ struct tankpost_answered tankpost_cut(
     tankpost_use_row *uses, size_t uses_len,
     tankpost_counted_row *counted, size_t counted_len,
     struct tankpost_unit unit, uint64_t cause, const uint64_t cost[TANKPOST_DIMS]);
+
+/* New rates and a new ceiling for a running relay. No lent memory is written. */
+struct tankpost_answered tankpost_set_rates(
+    struct tankpost_head head,
+    const uint16_t *tags, size_t tags_len,
+    const uint32_t *slots, size_t slots_len,
+    const tankpost_offsets *offsets,
+    const uint32_t *free_slots, size_t free_slots_len,
+    const tankpost_unit_row *units, size_t units_len,
+    const tankpost_use_row *uses, size_t uses_len,
+    const tankpost_counted_row *counted, size_t counted_len,
+    const uint64_t rate[TANKPOST_DIMS], const uint64_t ceiling[TANKPOST_DIMS], uint64_t stamp);
 
 /* The value is the number of bytes written to the front of out. */
 struct tankpost_count tankpost_report(

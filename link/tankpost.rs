@@ -167,7 +167,7 @@ pub struct Judged {
     pub head: Head,
 }
 
-/// What a start or a cut answers: 0, or the number of the refusal.
+/// What a start, a cut or a call of new rates answers: 0, or the number of the refusal.
 #[repr(C)]
 #[derive(Clone, Copy)]
 pub struct Answered {
@@ -238,6 +238,19 @@ unsafe extern "C" {
         unit: Words,
         cause: u64,
         cost: *const [u64; DIMS],
+    ) -> Answered;
+    fn tankpost_set_rates(
+        head: Head,
+        tags: *const u16, tags_len: usize,
+        slots: *const u32, slots_len: usize,
+        offsets: *const Offsets,
+        free: *const u32, free_len: usize,
+        units: *const UnitRow, units_len: usize,
+        uses: *const UseRow, uses_len: usize,
+        counted: *const CountedRow, counted_len: usize,
+        rate: *const [u64; DIMS],
+        ceiling: *const [u64; DIMS],
+        stamp: u64,
     ) -> Answered;
     fn tankpost_report(
         head: Head,
@@ -371,6 +384,26 @@ impl Shedder {
                 unit,
                 cause,
                 &cost,
+            )
+        };
+        self.take(a)
+    }
+
+    /// New rates and a new ceiling at a stamp.
+    pub fn set_rates(&mut self, rate: [u64; DIMS], ceiling: [u64; DIMS], stamp: u64) -> u64 {
+        let a = unsafe {
+            tankpost_set_rates(
+                self.head,
+                self.tags.as_ptr(), self.tags.len(),
+                self.slots.as_ptr(), self.slots.len(),
+                &self.offsets,
+                self.free.as_ptr(), self.free.len(),
+                self.units.as_ptr(), self.units.len(),
+                self.uses.as_ptr(), self.uses.len(),
+                self.counted.as_ptr(), self.counted.len(),
+                &rate,
+                &ceiling,
+                stamp,
             )
         };
         self.take(a)

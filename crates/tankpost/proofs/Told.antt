@@ -9,13 +9,15 @@ use Rattle.wants.specs.Wants.{Hist}
 use Rattle.head.specs.declared.Shedder.{Shedder}
 use Rattle.store.specs.declared.Cause.{Cause}
 use Rattle.head.specs.declared.Starting.{Starting}
-use Rattle.head.specs.Answers.{start_number, cut_number}
+use Rattle.head.specs.Answers.{start_number, cut_number, rates_number}
 use Rattle.head.specs.Start as starts
 use Rattle.judge.specs.declared.Judgement.{Judgement}
 use Rattle.judge.specs.Judging as judging
 use Rattle.judge.specs.Judging.{Memory, memory}
 use Rattle.cut.specs.declared.Cutting.{Cutting}
 use Rattle.cut.specs.Cutting as cutting
+use Rattle.rates.specs.declared.Changing.{Changing}
+use Rattle.rates.specs.Rates as rates
 use Rattle.report.specs.Report as reports
 use Rattle.codes.specs.declared.Count.{Count}
 use Rattle.codes.specs.declared.Decision.{Decision}
@@ -23,7 +25,7 @@ use Rattle.codes.specs.Numbers.{read_written}
 use Rattle.codes.specs.Decisions.{decision_of}
 use Rattle.meaning.specs.State.{after, told_as, Answer, Ruling, Written}
 use Rattle.meaning.specs.Page as page
-use Rattle.meaning.specs.Agrees.{of, started, judged, cut, start_with, report_with, asked_with}
+use Rattle.meaning.specs.Agrees.{of, started, judged, cut, changed, start_with, report_with, asked_with}
 use Rattle.meaning.proofs.Agrees.{agrees}
 use Rattle.tankpost.specs.Calls.{judged_as, reported, report_told}
 
@@ -59,6 +61,13 @@ module _ (h : Shedder) (m : Rows) (g : Hist) (k : List (List ℕ)) where
       ap (λ (x : ℕ). after x (record { head = c.head; rows = rows; hist = g; counted = counted })) en
       ∙ ap (λ (x : cutting.Cut). told_as cut_number (cut g x)) (e ∙ ap (λ (x : Unit). cutting.cut h m k x p cost) eu ∙ ap (λ (x : Cause). cutting.cut h m k v x cost) ep)
       ∙ sym (ap (told_as cut_number) (agrees.cut_is h lent v q cost))
+
+  pub rates_tells : (rate ceiling : List ℕ) (stamp : ℕ) (c : Changing) (n : ℕ) → rates.changing c ≡ rates.set_rates h m k rate ceiling stamp → n ≡ rates_number c.answer
+      → after n (of c.head lent) ≡ told_as rates_number (page.set_rates (of h lent) rate ceiling stamp)
+  rates_tells rate ceiling stamp c n e en =
+      ap (λ (x : ℕ). after x (of c.head lent)) en
+      ∙ ap (λ (x : rates.Changed). told_as rates_number (changed lent x)) e
+      ∙ sym (ap (told_as rates_number) (agrees.rates_is h lent rate ceiling stamp))
 
   pub report_tells : (out : List ℕ) (w : Written) (left : List ℕ) (n : Count) → reports.ends w left ≡ report_with h lent out → n ≡ read_written w
       → reported n left ≡ report_told (page.report (of h lent) out)

@@ -6,7 +6,7 @@
 ghost use Rattle.std.specs.Prelude.{◌≡◌};
 ghost use Rattle.sender.specs.Sender.{unit_of};
 ghost use Rattle.wants.specs.Wants.{Hist};
-ghost use Rattle.head.specs.Answers.{start_number, cut_number};
+ghost use Rattle.head.specs.Answers.{start_number, cut_number, rates_number};
 ghost use Rattle.head.specs.Bits.{SameButNanBits};
 ghost use Rattle.codes.specs.Numbers.{cause_of, dim_of, read_count, read_level, read_rate, read_bounded};
 ghost use Rattle.codes.specs.Decisions.{decision_of};
@@ -160,6 +160,43 @@ pub extern "C" fn tankpost_cut(
         codes::cause_of(cause),
         *cost,
     );
+    Answered {
+        answer: codes::answer_number(c.answer),
+        head: c.head,
+    }
+}
+
+// rates::set_rates: 0, or the number of the refusal. No lent memory is written.
+#[unsafe(no_mangle)]
+pub extern "C" fn tankpost_set_rates(
+    head: Shedder,
+    tags: &[u16],
+    slots: &[u32],
+    offsets: &[u32; OFFSETS],
+    free: &[u32],
+    units: &[UnitRow],
+    uses: &[UseRow],
+    counted: &[SourceRow],
+    rate: &[u64; DIMS],
+    ceiling: &[u64; DIMS],
+    stamp: u64,
+) -> Answered
+    ensures { (g : Hist) → SameButNanBits
+        (after result.answer (state_with g result.head tags.now slots.now offsets.now free.now units.now uses.now counted.now))
+        (told_as rates_number
+        (page.set_rates (state_with g head tags.now slots.now offsets.now free.now units.now uses.now counted.now)
+        rate.now ceiling.now stamp)) }
+{
+    let lent = LentRead {
+        tags,
+        slots,
+        offsets,
+        free,
+        units,
+        uses,
+        counted,
+    };
+    let c = rates::set_rates(head, &lent, *rate, *ceiling, stamp);
     Answered {
         answer: codes::answer_number(c.answer),
         head: c.head,
