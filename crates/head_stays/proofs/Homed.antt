@@ -142,6 +142,7 @@ module _ (Q : Unit → Type 0) where
         start = λ h m k g rate ceiling e. to_known _ _ (s.start h m k g rate ceiling e);
         judge = λ h m u cost stamp q w. to_known _ _ (s.judge h m u cost stamp q (of_known m.rows _ w));
         cut = λ h m k u c cost q w. to_known _ _ (s.cut h m k u c cost q (of_known m _ w));
+        rates = λ h m k rate ceiling stamp w. to_known _ _ (s.rates h m k rate ceiling stamp (of_known m _ w));
       }
 
 -- ---- a refused start

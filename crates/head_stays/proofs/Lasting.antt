@@ -49,6 +49,7 @@ use Rattle.judge.specs.Judging.{outcome_at, judged, Memory, Judged, bounded, jud
 use Rattle.cut.specs.Cutting.{KeptBy, kept_by, hands_back, handed_back, Cut, noted, cut_after, cut}
 use Rattle.head_stays.proofs.Whole.{Kept, judge_memory, memory_counted}
 use Rattle.head_stays.proofs.Stays.{judged_kept, handed_kept, counted_kept, judged_room, latest, kept_of}
+use Rattle.head_stays.proofs.Rates.{rates_hold}
 use Rattle.head_stays.specs.Homed.{Lasts}
 
 -- ---- what a start is asked shows that the lists have the lengths of a room
@@ -293,4 +294,4 @@ module _ (Q : Unit → Type 0) (P : Rows → ℕ → Type 0) (s : Steps Q P) whe
       (after_holds (kept_by h m) k u c cost p r)) p
 
   pub lasts : Lasts Q P
-  lasts = record { start = start_holds; judge = judge_holds; cut = cut_holds }
+  lasts = record { start = start_holds; judge = judge_holds; cut = cut_holds; rates = rates_hold P }

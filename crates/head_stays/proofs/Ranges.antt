@@ -41,6 +41,7 @@ use Rattle.scan.proofs.Laws as scans
 use Rattle.cut_counts.specs.Counting.{tally, added, cause_of, tallied, count_verdict}
 use Rattle.judge.specs.Judging.{flowed, judged, Memory, Judged, bounded, judge}
 use Rattle.cut.specs.Cutting.{KeptBy, kept_by, hands_back, flowed_back, handed_back, Cut, noted, cut_after, cut}
+use Rattle.head_stays.proofs.Rates.{rates_in}
 use Rattle.head_stays.specs.Ranges.{InRange, Ranges}
 
 -- ---- rates
@@ -179,4 +180,4 @@ cut_in h m k u c cost p =
     (after_in (kept_by h m) k u c cost p)) p
 
 pub ranges : Ranges
-ranges = record { start = start_in; judge = judge_in; cut = cut_in }
+ranges = record { start = start_in; judge = judge_in; cut = cut_in; rates = rates_in }

@@ -1,4 +1,4 @@
--- A judgement and a cut leave the head whole, and the offsets. Assumes nothing.
+-- A judgement, a cut and new rates leave the head whole, and the offsets. Assumes nothing.
 use mathlib.Core.Path.{◌≡◌, refl, sym, ◌∙◌}
 use mathlib.Core.Bool.{Bool, true, false, cond}
 use mathlib.Core.List.{List, [], ◌∷◌}
@@ -35,6 +35,7 @@ use Rattle.cut.specs.Cutting.{KeptBy, kept_by, hands_back, flowed_back, handed_b
 use Rattle.head_stays.specs.Whole.{Long, judged_whole, cut_whole, Stays}
 use Rattle.head.proofs.Whole.{Whole, whole_of, whole_is}
 use Rattle.head_stays.proofs.Parts.{Fit, fit_entry, fit_back, fit_tags}
+use Rattle.head_stays.proofs.Rates.{rates_keeps}
 use Rattle.head_stays.proofs.Whole.{Kept, scanned_kept, start_whole, start_keeps, judge_memory, cut_memory, memory_counted}
 
 -- ---- the record
@@ -233,4 +234,4 @@ cut_keeps h m k u c cost l w =
     (after_kept (kept_by h m) k u c cost f room)) w
 
 pub stays : Stays
-stays = record { start_whole = start_whole; start_keeps = start_keeps; judge_keeps = judge_keeps; cut_keeps = cut_keeps }
+stays = record { start_whole = start_whole; start_keeps = start_keeps; judge_keeps = judge_keeps; cut_keeps = cut_keeps; rates_keeps = rates_keeps }

@@ -1,4 +1,4 @@
--- A start makes the store well, and a judgement or a cut leaves it so: each slot stands once, each part has only entries of its own table. Each record has the name
+-- A start makes the store well, and a judgement, a cut or new rates leave it so: each slot stands once, each part has only entries of its own table. Each record has the name
 -- of a unit that a call was made for, and a search gives the first record that reads as its unit. A start assumes nothing of the bits in the slices. Statement only.
 use Rattle.std.specs.Prelude.{ℕ, ◌<◌, ◌≡◌, Bool, false, ⊤, List}
 use Rattle.sender.specs.declared.Unit.{Unit}
@@ -16,6 +16,7 @@ use Rattle.head.specs.Start.{start}
 use Rattle.store_entry.specs.Own.{name_at, At}
 use Rattle.judge.specs.Judging.{Memory, judge}
 use Rattle.cut.specs.Cutting.{cut}
+use Rattle.rates.specs.Rates.{set_rates}
 
 -- The record at k has the name of a unit that is not overflow, and of which Q holds.
 pub record By (Q : Unit → Type 0) (m : Rows) (k : ℕ) : Type 0 where
@@ -33,12 +34,14 @@ pub record Known (Q : Unit → Type 0) (m : Rows) (n : ℕ) : Type 0 where
   pub well : Well m n
   pub named : Named Q m n
 
--- P holds after a start that is not refused, and where it holds before a judgement or a cut, refused or not, for a unit of which Q holds, it holds after it.
+-- P holds after a start that is not refused, and where it holds before a judgement or a cut, refused or not, for a unit of which Q holds, or before new rates, it holds after it.
 pub record Lasts (Q : Unit → Type 0) (P : Rows → ℕ → Type 0) : Type 0 where
   pub start : (h : Shedder) (m : Rows) (k : List (List ℕ)) (g : Hist) (rate ceiling : List ℕ) → start_asked rate (sizes_of m k) ≡ 0
       → P (start h m k g rate ceiling).rows (start h m k g rate ceiling).head.tracked
   pub judge : (h : Shedder) (m : Memory) (u : Unit) (cost : List ℕ) (stamp : ℕ) → Q u → P m.rows h.tracked → P (judge h m u cost stamp).memory.rows (judge h m u cost stamp).head.tracked
   pub cut : (h : Shedder) (m : Rows) (k : List (List ℕ)) (u : Unit) (c : Cause) (cost : List ℕ) → Q u → P m h.tracked → P (cut h m k u c cost).rows (cut h m k u c cost).head.tracked
+  -- new rates name no unit and write no rows
+  pub rates : (h : Shedder) (m : Rows) (k : List (List ℕ)) (rate ceiling : List ℕ) (stamp : ℕ) → P m h.tracked → P m (set_rates h m k rate ceiling stamp).head.tracked
 
 -- The head and the rows are as they were.
 abbrev pub Same : Shedder → Rows → Shedder → Rows → Type 0
