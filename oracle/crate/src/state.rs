@@ -120,6 +120,27 @@ impl Shedder {
         held(self.tables.get(table_of(unit))?).units.get(&unit).map(Use::words)
     }
 
+    /// The records of a table become these; how many are tracked in all does not change.
+    pub fn set_table(&self, table: usize, records: &[(Unit, UseWords)]) {
+        let mut units = HashMap::new();
+        for (unit, words) in records {
+            units.insert(*unit, Use::of_words(words));
+        }
+        held(&self.tables[table]).units = units;
+    }
+
+    /// The judgement without its scan, which the Rust leaves out while another holds it.
+    pub fn judge_unscanned(&self, unit: Unit, cost: Cost, stamp: u64) -> Result<(), Cause> {
+        let _scanning = held(&self.scan);
+        self.judge(unit, cost, stamp)
+    }
+
+    /// The scan of the judgement just made.
+    pub fn scan(&self) {
+        let now = self.flow().at_ms;
+        self.scanned(now);
+    }
+
     /// A record in this table, which need not be its unit's.
     pub fn push_unit(&self, table: usize, unit: Unit, words: &UseWords) {
         held(&self.tables[table]).units.insert(unit, Use::of_words(words));

@@ -5,6 +5,7 @@ use crate::rules;
 use crate::shed::{self, bits, Cause, Cost, Rates, Unit, HEAD_WORDS};
 use crate::standin::{SOURCES_COUNTED, UNITS_TRACKED};
 use crate::steps::{Random, Step};
+use crate::store::Store;
 use crate::tankpost::{Bucket, Head, Shedder, Words};
 use crate::units::{reads, tag_of, words_of};
 use std::sync::atomic::Ordering;
@@ -18,12 +19,14 @@ pub struct Both {
     used: Vec<bool>,
     /// the tags and words of the records written since the last start
     written: Vec<(u16, Words)>,
+    /// what the unit records hold, where entries may name any slot
+    store: Option<Store>,
     /// all is compared each so many steps, the head and the unit's record at each
     stride: Option<usize>,
     steps: usize,
 }
 
-fn differs<T: PartialEq + std::fmt::Debug>(what: &str, rust: T, here: T) -> Result<(), String> {
+pub fn differs<T: PartialEq + std::fmt::Debug>(what: &str, rust: T, here: T) -> Result<(), String> {
     if rust == here { Ok(()) } else { Err(format!("{what}: the Rust has {rust:x?}, this has {here:x?}")) }
 }
 
@@ -74,15 +77,20 @@ fn part(s: &Shedder, table: usize) -> std::ops::Range<usize> {
     s.offsets[table] as usize..s.offsets[table + 1] as usize
 }
 
-/// The slot of an entry's rows; one that there is not reads as slot 0.
-fn slot_at(s: &Shedder, i: usize) -> usize {
-    let slot = s.slots[i] as usize;
+/// A slot that there is not reads as slot 0.
+fn slot_of(s: &Shedder, word: u32) -> usize {
+    let slot = word as usize;
     if slot < s.units.len() { slot } else { 0 }
 }
 
+/// The slot of an entry's rows.
+fn slot_at(s: &Shedder, i: usize) -> usize {
+    slot_of(s, s.slots[i])
+}
+
 /// The slot that the next record takes.
-fn next_slot(s: &Shedder) -> Option<usize> {
-    s.free[..s.free.len() - s.head.tracked].last().map(|slot| *slot as usize)
+fn next_slot(s: &Shedder) -> Option<u32> {
+    s.free[..s.free.len() - s.head.tracked].last().copied()
 }
 
 fn index(cause: Cause) -> u64 {
@@ -94,8 +102,8 @@ fn index(cause: Cause) -> u64 {
 }
 
 impl Both {
-    /// Memory of these sizes, of zeros or of any bits.
-    pub fn new(units: usize, counted: usize, stride: Option<usize>, any_bits: Option<u64>) -> Self {
+    /// Memory of these sizes, of zeros or of any bits; its entries may come to name any slots.
+    pub fn new(units: usize, counted: usize, stride: Option<usize>, any_bits: Option<u64>, any_slots: bool) -> Self {
         UNITS_TRACKED.store(units, Ordering::Relaxed);
         SOURCES_COUNTED.store(counted - 1, Ordering::Relaxed);
         let mut here = Shedder::new(units, counted);
@@ -111,7 +119,8 @@ impl Both {
             here.sums[1].fill_with(|| f64::from_bits(random.word()));
             here.counts[0].fill_with(|| random.word() as u32);
         }
-        Self { rust: None, found: here.clone(), here, most: [0; 2], used: vec![false; units], written: Vec::new(), stride, steps: 0 }
+        let store = any_slots.then(|| Store::new(&here));
+        Self { rust: None, found: here.clone(), here, most: [0; 2], used: vec![false; units], written: Vec::new(), store, stride, steps: 0 }
     }
 
     fn start(&mut self, rate: [u64; 2], ceiling: [u64; 2]) -> Result<(), String> {
@@ -124,6 +133,7 @@ impl Both {
             self.most = [0; 2];
             self.used.fill(false);
             self.written.clear();
+            self.store.iter_mut().for_each(Store::start);
         }
         Ok(())
     }
@@ -180,16 +190,20 @@ impl Both {
             }
             Step::Record(table, tag, words, used, fresh) if rust.is_bounded() && h.head.tracked < h.head.unit_room => {
                 let (at, end) = (h.offsets[table + 1] as usize, h.head.tracked);
-                let i = next_slot(h).unwrap();
+                let word = next_slot(h).unwrap();
+                let i = slot_of(h, word);
                 h.tags.copy_within(at..end, at + 1);
                 h.slots.copy_within(at..end, at + 1);
-                (h.tags[at], h.slots[at]) = (tag, i as u32);
+                (h.tags[at], h.slots[at]) = (tag, word);
                 h.offsets[table + 1..].iter_mut().for_each(|o| *o += 1);
                 h.units[i] = [words.kind, words.a, words.b, words.c, words.d, used[4], if used[5] != 0 { fresh } else { 0 }];
                 h.uses[i] = [0, 1, 2, 3].map(|k| f64::from_bits(used[k]));
                 h.head.tracked += 1;
                 rust.push_unit(table, reads(tag, words), &used);
                 self.written.push((tag, words));
+                if let Some(store) = &mut self.store {
+                    store.write(rust, table, tag, words, used);
+                }
             }
             Step::Counted(tag, words, counts) if h.head.counted + 1 < h.head.counted_room => {
                 h.tags[h.units.len() + h.head.counted] = tag;
@@ -198,8 +212,35 @@ impl Both {
                 rust.push_counted(reads(tag, words), counts);
                 self.written.push((tag, words));
             }
+            Step::Slot(entry, named) => {
+                if let Some((at, word)) = self.store.as_mut().and_then(|store| store.name_entry(rust, entry, named)) {
+                    h.slots[at] = word;
+                }
+            }
+            Step::Free(place, named) => {
+                if let Some((at, word)) = self.store.as_mut().and_then(|store| store.name_free(place, named)) {
+                    h.free[at] = word;
+                }
+            }
             _ => {}
         }
+    }
+
+    /// The Rust's judgement. Where entries may name any slots the store has what the others read then.
+    fn judged(&mut self, unit: Unit, cost: Cost, stamp: u64) -> Result<Option<rules::Answer>, String> {
+        let Some(rust) = &self.rust else { return Ok(None) };
+        let verdict = match &mut self.store {
+            Some(store) => store.judge(rust, unit, cost, stamp)?,
+            None => rust.judge(unit, cost, stamp),
+        };
+        Ok(Some(rules::judged(rust, verdict)))
+    }
+
+    /// The Rust's cut, likewise.
+    fn cut(&mut self, unit: Unit, cause: Cause, cost: Cost) -> Result<(), String> {
+        let Some(rust) = &self.rust else { return Ok(()) };
+        rust.cut(unit, cause, cost);
+        self.store.as_mut().map_or(Ok(()), |store| store.cut(rust, unit))
     }
 
     fn call(&mut self, step: &Step) -> Result<(), String> {
@@ -209,8 +250,8 @@ impl Both {
             Step::Judge(unit, cost, stamp) => {
                 let asked = questions::judge(&self.here, cost, stamp);
                 let answer = self.here.decision(words_of(unit), cost, stamp);
-                let rust = self.rust.as_ref().filter(|_| asked == 0);
-                let expected = rust.map_or(rules::refused(asked), |r| rules::judged(r, unit, cost_of(cost), stamp));
+                let judged = if asked == 0 { self.judged(unit, cost_of(cost), stamp)? } else { None };
+                let expected = judged.unwrap_or(rules::refused(asked));
                 differs("judge", expected, rules::words_of(&answer))?;
                 differs("judge by name", rules::named(&expected), rules::told(answer.told()))?;
                 self.same_unit(unit)
@@ -218,8 +259,8 @@ impl Both {
             Step::Cut(unit, cause, cost) => {
                 let asked = questions::cut(&self.here, cost);
                 differs("cut", asked, self.here.cut(words_of(unit), index(cause), cost))?;
-                if let Some(rust) = self.rust.as_ref().filter(|_| asked == 0) {
-                    rust.cut(unit, cause, cost_of(cost));
+                if asked == 0 {
+                    self.cut(unit, cause, cost_of(cost))?;
                 }
                 self.same_unit(unit)
             }
@@ -232,7 +273,7 @@ impl Both {
     }
 
     pub fn step(&mut self, step: &Step) -> Result<(), String> {
-        let next = self.rust.as_ref().and_then(|_| next_slot(&self.here));
+        let next = self.rust.as_ref().and_then(|_| next_slot(&self.here)).map(|word| slot_of(&self.here, word));
         self.call(step)?;
         self.steps += 1;
         // a call adds one record at most
@@ -292,25 +333,32 @@ impl Both {
         let row = |(tag, r): (&u16, &[u64; 8])| (reads(*tag, row_words(r)), [r[5], r[6], r[7]]);
         let counted = || h.tags[h.units.len()..].iter().zip(&h.counted[..h.head.counted]);
         differs("counted", rust.counted_words(), counted().map(row).collect())?;
-        // what reads as overflow is overflow's own, or was written so: the Rust does not have its tag and words
-        let units = (0..h.head.tracked).map(|i| (h.tags[i], row_words(&h.units[slot_at(h, i)])));
-        for name in units.chain(counted().map(|(tag, r)| (*tag, row_words(r)))) {
-            let own = (tag_of(Unit::Overflow), words_of(Unit::Overflow));
-            let known = reads(name.0, name.1) != Unit::Overflow || name == own || self.written.contains(&name);
-            differs("what reads as overflow", true, known)?;
-        }
+        counted().try_for_each(|(tag, r)| self.same_name(*tag, row_words(r)))?;
         for dim in 0..2 {
             let (counts, sums) = rust.wants_words(dim);
             differs("histogram's counts", &counts[..], &h.counts[dim][..])?;
             differs("histogram's sums", sums, h.sums[dim].iter().map(|x| bits(*x)).collect())?;
         }
-        self.same_free(behind)
+        match &self.store {
+            Some(store) => store.same(h)?,
+            None => {
+                (0..h.head.tracked).try_for_each(|i| self.same_name(h.tags[i], row_words(&h.units[slot_at(h, i)])))?;
+                self.same_free_slots(behind)?;
+            }
+        }
+        self.same_free_counted(behind)
     }
 
-    /// Each slot is an entry's or free, once. Places of the index and counted records behind those in use are zero where one
-    /// stood since the start, else as the start left them; so are the rows of free slots. A place that was used and freed
-    /// within one call shows only here.
-    fn same_free(&mut self, behind: usize) -> Result<(), String> {
+    /// What reads as overflow is overflow's own, or was written so: the Rust does not have its tag and words.
+    fn same_name(&self, tag: u16, words: Words) -> Result<(), String> {
+        let own = (tag_of(Unit::Overflow), words_of(Unit::Overflow));
+        let known = reads(tag, words) != Unit::Overflow || (tag, words) == own || self.written.contains(&(tag, words));
+        differs("what reads as overflow", true, known)
+    }
+
+    /// Each slot is an entry's or free, once. Places of the index behind those in use are zero where one stood since the start, else as
+    /// the start left them; so are the rows of free slots. A place that was used and freed within one call shows only here.
+    fn same_free_slots(&mut self, behind: usize) -> Result<(), String> {
         let h = &self.here;
         let (tracked, room) = (h.head.tracked, h.units.len());
         let entry = |s: &Shedder, i: usize| (s.tags[i], s.slots[i]);
@@ -330,6 +378,12 @@ impl Both {
             let expected = if self.used[slot] { ([0; 7], [0; 4]) } else { unit_row(&self.found, slot) };
             differs("a free slot", expected, unit_row(h, slot))?;
         }
+        Ok(())
+    }
+
+    /// The same of the counted records.
+    fn same_free_counted(&mut self, behind: usize) -> Result<(), String> {
+        let h = &self.here;
         let counted_row = |s: &Shedder, i: usize| (s.tags[s.units.len() + i], s.counted[i]);
         if self.most[1] < h.counted.len() && counted_row(h, self.most[1]) == (0, [0; 8]) {
             self.most[1] += 1;

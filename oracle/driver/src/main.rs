@@ -1,6 +1,7 @@
 //! Compares the Rust oracle and this, call by call, in one process. oracle/compare builds and runs it.
-//! usage: compare lists FILE | writes FILE | large CALLS | refusals LISTS
-//! FILE has scripts of the trial's language, a form feed between two; `writes` also writes any bits between the calls.
+//! usage: compare lists FILE | writes FILE | slots FILE | large CALLS | refusals LISTS
+//! FILE has scripts of the trial's language, a form feed between two; `writes` also writes any bits between the calls, and `slots` has
+//! entries and free places name other slots.
 #![allow(dead_code, unused_parens)]
 mod both;
 mod group;
@@ -14,6 +15,7 @@ mod rules;
 mod shed;
 mod standin;
 mod steps;
+mod store;
 mod tables;
 mod tankpost;
 mod units;
@@ -29,11 +31,12 @@ struct List {
     counted: usize,
     steps: Vec<Step>,
     any_bits: Option<u64>,
+    any_slots: bool,
 }
 
 /// The place of the first difference seen and what it is.
 fn run(list: &List, stride: Option<usize>) -> Result<(), (usize, String)> {
-    let mut both = Both::new(list.units, list.counted, stride, list.any_bits);
+    let mut both = Both::new(list.units, list.counted, stride, list.any_bits, list.any_slots);
     for (i, step) in list.steps.iter().enumerate() {
         both.step(step).map_err(|text| (i, text))?;
     }
@@ -41,8 +44,8 @@ fn run(list: &List, stride: Option<usize>) -> Result<(), (usize, String)> {
 }
 
 /// A difference is sought again with all compared at each step; the list up to it goes into a file.
-fn must_agree(name: &str, list: &List) {
-    let Err((last, text)) = run(list, None) else { return };
+fn must_agree(name: &str, list: &List, stride: Option<usize>) {
+    let Err((last, text)) = run(list, stride) else { return };
     let shorter = List { steps: list.steps[..=last].to_vec(), ..*list };
     let (i, text) = run(&shorter, Some(1)).err().unwrap_or((last, text));
     let mut all = format!("{} units, {} counted\n", list.units, list.counted);
@@ -55,35 +58,55 @@ fn must_agree(name: &str, list: &List) {
     std::process::exit(1);
 }
 
-fn lists(file: &str, writes: bool) {
+#[derive(Clone, Copy, PartialEq)]
+enum Kind {
+    Calls,
+    Writes,
+    Slots,
+}
+
+/// The calls of a script, with what the kind writes between them.
+fn steps_of(script: &[u8], kind: Kind, random: &mut Random) -> (usize, Vec<Step>) {
+    let mut steps = steps::of_lines(script, random);
+    let calls = steps.len();
+    if kind == Kind::Writes || (kind == Kind::Slots && random.below(2) == 0) {
+        steps = steps::with_writes(steps, random);
+    }
+    if kind == Kind::Slots {
+        steps = steps::with_slots(steps, random);
+    }
+    (calls, steps)
+}
+
+fn lists(file: &str, kind: Kind) {
     let text = std::fs::read(file).unwrap();
+    let any_slots = kind == Kind::Slots;
+    // where any slot is named all is compared at each step, in stores that allow it
+    let (rooms, stride) = if any_slots { (&UNITS[..10], Some(1)) } else { (&UNITS[..], None) };
     let (mut count, mut calls, mut written) = (0, 0, 0);
     for (i, script) in text.split(|b| *b == 12).enumerate() {
-        let mut random = Random(i as u64 + if writes { 1 << 32 } else { 0 });
-        let mut steps = steps::of_lines(script, &mut random);
-        calls += steps.len();
-        if writes {
-            let before = steps.len();
-            steps = steps::with_writes(steps, &mut random);
-            written += steps.len() - before;
-        }
-        let (units, counted) = (random.one(&UNITS), random.one(&COUNTED));
+        let mut random = Random(i as u64 + ((kind as u64) << 32));
+        let (made, steps) = steps_of(script, kind, &mut random);
+        (calls, written) = (calls + made, written + steps.len() - made);
+        let (units, counted) = (random.one(rooms), random.one(&COUNTED));
         let any_bits = (i % 2 == 1).then(|| random.word());
-        must_agree(&format!("list {i}"), &List { units, counted, steps, any_bits });
+        must_agree(&format!("list {i}"), &List { units, counted, steps, any_bits, any_slots }, stride);
         count += 1;
     }
-    println!("{count} lists, {calls} calls, {written} writes: no difference; {}", rules::met());
+    let slots = if any_slots { format!(" {};", store::met()) } else { String::new() };
+    println!("{count} lists, {calls} calls, {written} writes: no difference;{slots} {}", rules::met());
 }
 
 fn main() {
     let args: Vec<String> = std::env::args().collect();
     match args[1].as_str() {
-        "lists" => lists(&args[2], false),
-        "writes" => lists(&args[2], true),
+        "lists" => lists(&args[2], Kind::Calls),
+        "writes" => lists(&args[2], Kind::Writes),
+        "slots" => lists(&args[2], Kind::Slots),
         "large" => {
             let steps = large::list(args[2].parse().unwrap());
-            let list = List { units: large::UNITS, counted: large::COUNTED, steps, any_bits: Some(1) };
-            must_agree("the large list", &list);
+            let list = List { units: large::UNITS, counted: large::COUNTED, steps, any_bits: Some(1), any_slots: false };
+            must_agree("the large list", &list, None);
             println!("1 list of {} units and {} counted records, {} calls: no difference; {}", list.units, list.counted, list.steps.len(), rules::met());
         }
         "refusals" => match refusals::run(args[2].parse().unwrap()) {

@@ -1,5 +1,5 @@
 //! The answer of a judgement as words: refusal, verdict, rule, dimension and two doubles, with the numbers of link/README.md.
-use crate::shed::{bits, last_asked, Asked, Cause, Cost, Shedder, Unit};
+use crate::shed::{bits, last_asked, Asked, Cause, Shedder};
 use crate::tankpost::{Decision, Dim, Rule, Side, Verdict};
 use std::sync::atomic::{AtomicU64, Ordering};
 
@@ -38,9 +38,9 @@ fn rule_words(asked: Asked) -> [u64; 4] {
     }
 }
 
-/// The Rust's own verdict, and beside it the question that decided.
-pub fn judged(rust: &Shedder, unit: Unit, cost: Cost, stamp: u64) -> Answer {
-    let verdict = match rust.judge(unit, cost, stamp) {
+/// The Rust's own verdict on the judgement just made, and beside it the question that decided.
+pub fn judged(rust: &Shedder, verdict: Result<(), Cause>) -> Answer {
+    let verdict = match verdict {
         Ok(()) => 1,
         Err(Cause::OverShare) => 2,
         Err(_) => 3,

@@ -21,6 +21,23 @@ pub enum Step {
     Record(usize, u16, Words, UseWords, u64),
     /// a counted source more
     Counted(u16, Words, [u64; 3]),
+    /// this entry (modulo those in use) names another slot
+    Slot(usize, Named),
+    /// this free place (modulo those that are free, from the next one taken) names another slot
+    Free(usize, Named),
+}
+
+/// What an entry or a free place comes to name.
+#[derive(Clone, Copy, Debug)]
+pub enum Named {
+    /// a slot that there is not: so many behind the first such, at most u32::MAX
+    Beyond(u32),
+    /// what this entry names (modulo those in use)
+    Entry(usize),
+    /// what this free place names (as above)
+    Free(usize),
+    /// this slot (modulo the room)
+    Slot(usize),
 }
 
 /// splitmix64
@@ -147,6 +164,42 @@ pub fn with_writes(list: Vec<Step>, random: &mut Random) -> Vec<Step> {
     for (i, step) in list.into_iter().enumerate() {
         if i > 0 && random.below(4) == 0 {
             out.push(a_write(random, &known));
+        }
+        out.push(step);
+    }
+    out
+}
+
+/// A slot that there is not, another entry's, which may be a neighbour of entry i, a free one, or any.
+fn some_named(random: &mut Random, i: usize) -> Named {
+    match random.below(8) {
+        0..=2 => {
+            let any = random.word() as u32;
+            Named::Beyond(random.one(&[0, 1, u32::MAX, any]))
+        }
+        3 | 4 => Named::Entry(i + 1 + random.below(3)),
+        5 => Named::Entry(random.below(1 << 20)),
+        6 => Named::Free(random.below(3)),
+        _ => Named::Slot(random.below(1 << 20)),
+    }
+}
+
+/// Another slot for an entry, or for one of the next free places.
+fn a_slot(random: &mut Random) -> Step {
+    let i = random.below(1 << 20);
+    match random.below(4) {
+        0 => Step::Free(random.below(4), some_named(random, i)),
+        _ => Step::Slot(i, some_named(random, i)),
+    }
+}
+
+/// The list with another slot before about every fourth step, or more seldom.
+pub fn with_slots(list: Vec<Step>, random: &mut Random) -> Vec<Step> {
+    let every = random.one(&[4, 20, 100]);
+    let mut out = Vec::new();
+    for step in list {
+        if random.below(every) == 0 {
+            out.push(a_slot(random));
         }
         out.push(step);
     }
