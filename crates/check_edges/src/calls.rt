@@ -23,6 +23,11 @@ fn cut(step: &Step, head: Shedder, lent: &mut Lent<'_>) -> Tried {
     Tried::new(d.answer.map(|()| None), d.head)
 }
 
+fn set_rates(step: &Step, head: Shedder, lent: &Lent<'_>) -> Tried {
+    let c = rates::set_rates(head, &lent.read(), step.amounts, [0; DIMS], step.stamp);
+    Tried::new(c.answer.map(|()| None), c.head)
+}
+
 fn refusal(head: Shedder, lent: &Lent<'_>, out: &[u8]) -> Answer {
     report::report_refusal(head, &lent.read(), out).map(|()| None)
 }
@@ -88,6 +93,7 @@ pub fn answered(
         Call::Start => Ok(start(step, head, lent, histogram)),
         Call::Judge => Ok(judge(step, head, lent, histogram)),
         Call::Cut => Ok(cut(step, head, lent)),
+        Call::Rates => Ok(set_rates(step, head, lent)),
         Call::Report => report(rt, head, lent, out),
         Call::WriteReport => write_report(rt, head, lent, out),
         Call::ReportRefusal => Ok(Tried::new(refusal(head, lent, out), head)),

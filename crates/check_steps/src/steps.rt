@@ -23,6 +23,7 @@ pub enum Call {
     Start,
     Judge,
     Cut,
+    Rates,
     Report,
     WriteReport,
     ReportRefusal,
@@ -85,7 +86,7 @@ pub enum Says {
     Line,
 }
 
-// A call: the sender, the head's fault, what is lent, the amounts (a start's rates, else a cost) and the stamp.
+// A call: the sender, the head's fault, what is lent, the amounts (rates of a start or of a call of new ones, else a cost) and the stamp.
 #[derive(Clone, Copy)]
 pub struct Step {
     pub call: Call,
@@ -419,6 +420,24 @@ fn readings_refused(steps: &mut Vec<Step>) -> Result<(), AllocError> {
     Ok(())
 }
 
+// Questions 3, 4, 1, 6 and 10, the last also of a relay that is not bounded.
+fn rates_refused(steps: &mut Vec<Step>) -> Result<(), AllocError> {
+    let rates = Step::refused(Call::Rates);
+    steps.extend_from_slice(&[rates.fault(Fault::RateZero), rates.fault(Fault::OffsetsFall)])?;
+    lent_unfit(steps, Call::Rates)?;
+    steps.extend_from_slice(&[
+        rates.amounts(0, 1).stamp(STAMP_END).lent(6, 4, 4, 3),
+        rates.amounts(0, 1).stamp(STAMP_END),
+        rates.amounts(1, RATE_MOST + 1),
+        rates.amounts(u64::MAX, 1),
+        rates.amounts(u64::MAX, u64::MAX).stamp(STAMP_END),
+        rates.amounts(u64::MAX, u64::MAX),
+        Step::start(u64::MAX),
+        rates.stamp(STAMP_END),
+        rates,
+    ])
+}
+
 // The report into a buffer of just its bytes, of one more and of 4,096.
 fn reports_written(steps: &mut Vec<Step>) -> Result<(), AllocError> {
     for call in [Call::Report, Call::WriteReport] {
@@ -447,5 +466,6 @@ pub fn all_steps(alloc: Global) -> Result<Vec<Step>, AllocError> {
     readings_refused(&mut steps)?;
     reports_written(&mut steps)?;
     lines_refused(&mut steps)?;
+    rates_refused(&mut steps)?;
     Ok(steps)
 }

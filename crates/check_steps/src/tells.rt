@@ -12,6 +12,7 @@ impl Call {
             Call::Start => "start",
             Call::Judge => "judge",
             Call::Cut => "cut",
+            Call::Rates => "rates",
             Call::Report => "report",
             Call::WriteReport => "write_report",
             Call::ReportRefusal => "report_refusal",

@@ -63,6 +63,24 @@ impl Use {
     }
 }
 
+impl Shedder {
+    /// Document 02, K3: the clock and the refill of a judgement, then rates, bursts and rates per millisecond as at a start; of the
+    /// tokens no more than the burst.
+    pub fn set_rates(&self, rate: Rates, ceiling: Rates, stamp: u64) {
+        let mut flow = self.flow();
+        let now = stamp.max(flow.at_ms);
+        let elapsed = now - flow.at_ms;
+        flow.at_ms = now;
+        let fresh = Self::new(rate, ceiling);
+        let started = fresh.flow();
+        for (bucket, full) in flow.buckets.iter_mut().zip(&started.buckets) {
+            let tokens = (bucket.tokens + elapsed as f64 * bucket.rate_per_ms).min01(bucket.burst);
+            *bucket = Bucket { tokens: tokens.min01(full.burst), burst: full.burst, rate_per_ms: full.rate_per_ms };
+        }
+        (flow.rate, flow.ceiling) = (rate, ceiling);
+    }
+}
+
 /// The words of the head: those of link/tankpost.rs in their order, without the two capacities.
 pub const HEAD_WORDS: usize = 41;
 

@@ -93,6 +93,10 @@ fn next_slot(s: &Shedder) -> Option<u32> {
     s.free[..s.free.len() - s.head.tracked].last().copied()
 }
 
+fn rates_of(r: [u64; 2]) -> Rates {
+    Rates { receptions_per_s: r[0], bytes_per_s: r[1] }
+}
+
 fn index(cause: Cause) -> u64 {
     match cause {
         Cause::ReceiverCeiling => 0,
@@ -127,13 +131,21 @@ impl Both {
         let asked = questions::start(&self.here, rate);
         differs("start", asked, self.here.start(rate, ceiling))?;
         if asked == 0 {
-            let rates = |r: [u64; 2]| Rates { receptions_per_s: r[0], bytes_per_s: r[1] };
-            self.rust = Some(shed::Shedder::new(rates(rate), rates(ceiling)));
+            self.rust = Some(shed::Shedder::new(rates_of(rate), rates_of(ceiling)));
             self.found = self.here.clone();
             self.most = [0; 2];
             self.used.fill(false);
             self.written.clear();
             self.store.iter_mut().for_each(Store::start);
+        }
+        Ok(())
+    }
+
+    fn set_rates(&mut self, rate: [u64; 2], ceiling: [u64; 2], stamp: u64) -> Result<(), String> {
+        let asked = questions::set_rates(&self.here, rate, stamp);
+        differs("new rates", asked, self.here.set_rates(rate, ceiling, stamp))?;
+        if let Some(rust) = self.rust.as_ref().filter(|_| asked == 0) {
+            rust.set_rates(rates_of(rate), rates_of(ceiling), stamp);
         }
         Ok(())
     }
@@ -264,6 +276,7 @@ impl Both {
                 }
                 self.same_unit(unit)
             }
+            Step::Rates(rate, ceiling, stamp) => self.set_rates(rate, ceiling, stamp),
             Step::Report(room) => self.report(room),
             _ => {
                 self.write(step);

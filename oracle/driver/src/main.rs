@@ -1,7 +1,7 @@
 //! Compares the Rust oracle and this, call by call, in one process. oracle/compare builds and runs it.
-//! usage: compare lists FILE | writes FILE | slots FILE | large CALLS | refusals LISTS
+//! usage: compare lists FILE | writes FILE | slots FILE | rates FILE | large CALLS | refusals LISTS
 //! FILE has scripts of the trial's language, a form feed between two; `writes` also writes any bits between the calls, and `slots` has
-//! entries and free places name other slots.
+//! entries and free places name other slots, `rates` new rates between the calls.
 #![allow(dead_code, unused_parens)]
 mod both;
 mod group;
@@ -63,13 +63,17 @@ enum Kind {
     Calls,
     Writes,
     Slots,
+    Rates,
 }
 
-/// The calls of a script, with what the kind writes between them.
+/// The calls of a script, with what the kind writes between them: how many are calls.
 fn steps_of(script: &[u8], kind: Kind, random: &mut Random) -> (usize, Vec<Step>) {
     let mut steps = steps::of_lines(script, random);
+    if kind == Kind::Rates {
+        steps = steps::with_rates(steps, random);
+    }
     let calls = steps.len();
-    if kind == Kind::Writes || (kind == Kind::Slots && random.below(2) == 0) {
+    if kind == Kind::Writes || (matches!(kind, Kind::Slots | Kind::Rates) && random.below(2) == 0) {
         steps = steps::with_writes(steps, random);
     }
     if kind == Kind::Slots {
@@ -83,18 +87,19 @@ fn lists(file: &str, kind: Kind) {
     let any_slots = kind == Kind::Slots;
     // where any slot is named all is compared at each step, in stores that allow it
     let (rooms, stride) = if any_slots { (&UNITS[..10], Some(1)) } else { (&UNITS[..], None) };
-    let (mut count, mut calls, mut written) = (0, 0, 0);
+    let (mut count, mut calls, mut written, mut changes) = (0, 0, 0, 0);
     for (i, script) in text.split(|b| *b == 12).enumerate() {
         let mut random = Random(i as u64 + ((kind as u64) << 32));
         let (made, steps) = steps_of(script, kind, &mut random);
         (calls, written) = (calls + made, written + steps.len() - made);
+        changes += steps.iter().filter(|s| matches!(s, Step::Rates(..))).count();
         let (units, counted) = (random.one(rooms), random.one(&COUNTED));
         let any_bits = (i % 2 == 1).then(|| random.word());
         must_agree(&format!("list {i}"), &List { units, counted, steps, any_bits, any_slots }, stride);
         count += 1;
     }
     let slots = if any_slots { format!(" {};", store::met()) } else { String::new() };
-    println!("{count} lists, {calls} calls, {written} writes: no difference;{slots} {}", rules::met());
+    println!("{count} lists, {calls} calls, {changes} of them new rates, {written} writes: no difference;{slots} {}", rules::met());
 }
 
 fn main() {
@@ -103,6 +108,7 @@ fn main() {
         "lists" => lists(&args[2], Kind::Calls),
         "writes" => lists(&args[2], Kind::Writes),
         "slots" => lists(&args[2], Kind::Slots),
+        "rates" => lists(&args[2], Kind::Rates),
         "large" => {
             let steps = large::list(args[2].parse().unwrap());
             let list = List { units: large::UNITS, counted: large::COUNTED, steps, any_bits: Some(1), any_slots: false };

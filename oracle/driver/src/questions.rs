@@ -1,4 +1,4 @@
-//! Document 01's questions, written from its text: the number of the first answered no, 0 where all are answered yes.
+//! Document 01's questions, and document 02's 10, written from their text: the number of the first answered no, 0 where all are answered yes.
 use crate::tankpost::{Head, Shedder};
 
 const MOST: u64 = 1 << 40;
@@ -63,6 +63,15 @@ pub fn judge(s: &Shedder, cost: [u64; 2], stamp: u64) -> u64 {
 
 pub fn cut(s: &Shedder, cost: [u64; 2]) -> u64 {
     judge(s, cost, 0)
+}
+
+/// New rates: question 1 is asked of them, and 10 of the running ones too.
+pub fn set_rates(s: &Shedder, rate: [u64; 2], stamp: u64) -> u64 {
+    if !whole(s) {
+        return 3;
+    }
+    let bounded = s.head.flow.rate != [u64::MAX; 2] && rate != [u64::MAX; 2];
+    first_no(&[(4, memory(s)), (1, rates(rate)), (6, stamp <= STAMP), (10, bounded)])
 }
 
 /// Question 7 is asked of the text, which is the caller's.

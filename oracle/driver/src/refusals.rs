@@ -82,7 +82,7 @@ fn call(s: &mut Shedder, random: &mut Random) -> (u64, u64) {
     let unit = words_of(random.one(&[Unit::Overflow, Unit::Group(None)]));
     let cost = [(); 2].map(|_| random.one(&[0, 1, MOST, MOST + 1, u64::MAX]));
     let stamp = random.one(&[0, 5_000, STAMP, STAMP + 1, u64::MAX]);
-    match random.below(9) {
+    match random.below(10) {
         0 => {
             let rate = [(); 2].map(|_| random.one(&[0, 1, MOST, MOST + 1, u64::MAX]));
             (questions::start(s, rate), s.start(rate, cost))
@@ -107,6 +107,10 @@ fn call(s: &mut Shedder, random: &mut Random) -> (u64, u64) {
             assert!(level.refusal == 0 || level.value == 0.0);
             (questions::read(s), level.refusal)
         }
+        8 => {
+            let rate = if random.below(3) == 0 { [u64::MAX; 2] } else { [(); 2].map(|_| random.one(&[0, 1, MOST, MOST + 1, u64::MAX])) };
+            (questions::set_rates(s, rate, stamp), s.set_rates(rate, cost, stamp))
+        }
         _ => {
             let (a, b, c) = (s.cut_batches(random.sized()), s.rate(random.sized()), s.is_bounded());
             assert!(a.refusal == b.refusal && b.refusal == c.refusal);
@@ -117,8 +121,8 @@ fn call(s: &mut Shedder, random: &mut Random) -> (u64, u64) {
 }
 
 /// So many lists of 100 calls; the numbers of calls by their refusal, 0 for none.
-pub fn run(lists: u64) -> Result<[u64; 10], String> {
-    let mut made = [0; 10];
+pub fn run(lists: u64) -> Result<[u64; 11], String> {
+    let mut made = [0; 11];
     for seed in 0..lists {
         let mut random = Random(seed);
         let whole = used(&mut random);
@@ -131,7 +135,7 @@ pub fn run(lists: u64) -> Result<[u64; 10], String> {
             let (asked, answer) = call(&mut s, &mut random);
             made[asked as usize] += 1;
             if asked != answer {
-                return Err(format!("list {seed}, call {i}: document 01 has number {asked}, the answer is {answer}"));
+                return Err(format!("list {seed}, call {i}: the documents have number {asked}, the answer is {answer}"));
             }
             if asked != 0 && before != held(&s) {
                 return Err(format!("list {seed}, call {i}: refused by {asked}, but head or memory changed"));

@@ -9,6 +9,8 @@ pub enum Step {
     Start([u64; 2], [u64; 2]),
     Judge(Unit, [u64; 2], u64),
     Cut(Unit, Cause, [u64; 2]),
+    /// new rates, the ceiling, the stamp
+    Rates([u64; 2], [u64; 2], u64),
     /// with so much room in the buffer
     Report(usize),
     /// a word of the head
@@ -200,6 +202,43 @@ pub fn with_slots(list: Vec<Step>, random: &mut Random) -> Vec<Step> {
     for step in list {
         if random.below(every) == 0 {
             out.push(a_slot(random));
+        }
+        out.push(step);
+    }
+    out
+}
+
+/// A rate: the ends of its range, one of a list's size, or now and then one that is refused.
+fn a_rate(random: &mut Random) -> u64 {
+    let sized = 1 + random.sized() % 100_000;
+    random.one(&[1, 1 << 40, 1 << 40, sized, sized, sized, 10, 1_000, (1 << 40) + 1])
+}
+
+/// New rates at the stamp of the judgement before, an older one, a later one, or now and then one far ahead.
+fn some_rates(random: &mut Random, last: u64) -> Step {
+    let rate = if random.below(20) == 0 { [u64::MAX; 2] } else { [(); 2].map(|_| a_rate(random)) };
+    let ceiling = [(); 2].map(|_| random.one(&[0, 0, 50, 1 << 40, u64::MAX]));
+    let stamp = match random.below(40) {
+        0 => random.stamp(),
+        1 => 1 << 53,
+        2..=9 => last.saturating_sub(random.sized() % 10_000),
+        10..=19 => last.saturating_add(random.sized() % 3_000),
+        _ => last,
+    };
+    Step::Rates(rate, ceiling, stamp)
+}
+
+/// The list with new rates now and then, often or seldom.
+pub fn with_rates(list: Vec<Step>, random: &mut Random) -> Vec<Step> {
+    let every = random.one(&[3, 10, 50]);
+    let mut last = 0;
+    let mut out = Vec::new();
+    for step in list {
+        if random.below(every) == 0 {
+            out.push(some_rates(random, last));
+        }
+        if let Step::Judge(_, _, stamp) = step {
+            last = stamp;
         }
         out.push(step);
     }
