@@ -1,5 +1,5 @@
-/* Two examples through the linked calls, of docs/SPECIFICATION.md and of docs/FAIRNESS.md (After a cut). Prints the number
-   that a start or a cut answers, the verdict of a judgement and the rule that decided it, then the report. */
+/* Three examples through the linked calls: of docs/SPECIFICATION.md, of docs/FAIRNESS.md (After a cut), and of new rates while
+   running. Prints the number that a start, a cut or a call of new rates answers, the verdict of a judgement and the rule that decided it, then the report. */
 #include <inttypes.h>
 #include <stdio.h>
 
@@ -61,6 +61,13 @@ static void cut(struct tankpost_unit unit, uint64_t cause, uint64_t receptions, 
                           COUNTED, unit, cause, cost));
 }
 
+static void set_rates(uint64_t receptions_per_s, uint64_t bytes_per_s, uint64_t stamp) {
+    const uint64_t rate[] = {receptions_per_s, bytes_per_s}, ceiling[] = {0, 0};
+    answered(tankpost_set_rates(head, tags, UNITS + COUNTED, slots, UNITS, (const tankpost_offsets *)&offsets, free_slots, UNITS,
+                                (const tankpost_unit_row *)units, UNITS, (const tankpost_use_row *)uses, UNITS,
+                                (const tankpost_counted_row *)counted, COUNTED, rate, ceiling, stamp));
+}
+
 static uint64_t report(void) {
     uint8_t out[4096];
     struct tankpost_count written = tankpost_report(head, tags, UNITS + COUNTED, slots, UNITS, (const tankpost_offsets *)&offsets,
@@ -86,5 +93,14 @@ int main(void) {
     judge(dairy, 30, 100, 1000);
     judge(dairy, 20, 100, 1000);
     judge(dairy, 30, 100, 1000);
+
+    /* The first takes all 10 tokens of readings. Half a second later there are 5, which the new rate leaves as they are; a tenth of a
+       second after that there are 100 more. */
+    start(0);
+    judge(first, 10, 100, 1000);
+    set_rates(1000, 100000, 1500);
+    judge(second, 6, 100, 1500);
+    judge(second, 5, 100, 1500);
+    judge(second, 10, 100, 1600);
     return (int)refusal;
 }
