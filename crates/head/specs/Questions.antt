@@ -64,6 +64,10 @@ sizes_whole s = tags_whole s && (slots_whole s && rooms_whole s.units s.counted 
 unfoldable pub is_stamp : ℕ → Bool
 is_stamp t = ltb t STAMP_END
 
+-- question 6
+unfoldable pub stamp_asked : ℕ → ℕ
+stamp_asked t = cond (is_stamp t) 0 6
+
 unfoldable pub stamps_whole : ℕ → ℕ → ℕ → ℕ → Bool
 stamps_whole a b c d = (is_stamp a && is_stamp b) && (is_stamp c && is_stamp d)
 

@@ -256,7 +256,17 @@ fn start_asked(rate: [u64; DIMS], sizes: Sizes) -> Result<(), Refusal>
     Ok(())
 }
 
-#[tactic(auto, unfolding(crate::specs::Questions::judge_asked, crate::specs::Questions::cut_asked, crate::specs::Answers::answer_number, crate::specs::Answers::number_of))]
+#[tactic(auto, unfolding(crate::specs::Questions::stamp_asked, crate::specs::Answers::answer_number, crate::specs::Answers::number_of))]
+fn stamp_asked(stamp: u64) -> Result<(), Refusal>
+    ensures { answers.answer_number result ≡ asked.stamp_asked stamp }
+{
+    if !is_stamp(stamp) {
+        return Err(Refusal::Stamp);
+    }
+    Ok(())
+}
+
+#[tactic(auto, unfolding(crate::specs::Questions::judge_asked, crate::specs::Questions::stamp_asked, crate::specs::Questions::cut_asked, crate::specs::Answers::answer_number, crate::specs::Answers::number_of))]
 pub fn judge_asked(
     h: Shedder,
     sizes: Sizes,
@@ -267,10 +277,7 @@ pub fn judge_asked(
     ensures { answers.answer_number result ≡ asked.judge_asked h sizes offsets.now cost stamp }
 {
     cut_asked(h, sizes, offsets, cost)?;
-    if !is_stamp(stamp) {
-        return Err(Refusal::Stamp);
-    }
-    Ok(())
+    stamp_asked(stamp)
 }
 
 #[tactic(auto, unfolding(crate::specs::Questions::cut_asked, crate::specs::Questions::read_asked, crate::specs::Answers::answer_number, crate::specs::Answers::number_of))]
@@ -300,7 +307,7 @@ fn both_bounded(running: [u64; DIMS], rate: [u64; DIMS]) -> bool
     !is_unbounded(running) && !is_unbounded(rate)
 }
 
-#[tactic(auto, unfolding(crate::specs::Questions::rates_asked, crate::specs::Questions::read_asked, crate::specs::Answers::answer_number, crate::specs::Answers::number_of))]
+#[tactic(auto, unfolding(crate::specs::Questions::rates_asked, crate::specs::Questions::read_asked, crate::specs::Questions::stamp_asked, crate::specs::Answers::answer_number, crate::specs::Answers::number_of))]
 pub fn rates_asked(
     h: Shedder,
     sizes: Sizes,
@@ -317,9 +324,7 @@ pub fn rates_asked(
     if !rates_whole(to) {
         return Err(Refusal::Rates);
     }
-    if !is_stamp(stamp) {
-        return Err(Refusal::Stamp);
-    }
+    stamp_asked(stamp)?;
     if !both_bounded(h.flow.rate, to) {
         return Err(Refusal::Unbounded);
     }
