@@ -13,7 +13,7 @@ use Rattle.shifting.specs.Offsets.{Whole}
 use Rattle.shifting.proofs.Down.{down_long}
 use Rattle.parts.specs.Parts.{Rows, put, started, slot_at, floats_of}
 use Rattle.parts.specs.Held.{Sized}
-use Rattle.parts.specs.Laws.{one_if, times, Once, Homed, Sound, Starts}
+use Rattle.parts.specs.Laws.{one_if, times, Once, Homed, Sound, Well, Starts}
 use Rattle.parts.proofs.Slots.{down_times}
 
 zeros : (k : ℕ) → k < 65 → get_or {A = ℕ} (replicate 65 0) k 0 ≡ 0
@@ -46,11 +46,15 @@ module _ (m : Rows) (z : Sized m) where
   unfolding started
   started_homed t k l p q = absurd (omega (arith, zeros t (omega arith), zeros (t + 1) (omega arith)))
 
+  started_well : Well (started m) 0
+  started_well = record {
+    sound = record { sized = started_sized; room = omega arith; offsets = started_long; whole = started_whole; once = started_once };
+    homed = started_homed;
+  }
+
 pub starts : Starts
-starts m z = record {
-  sound = record { sized = started_sized m z; room = omega arith; offsets = started_long m z; whole = started_whole m z; once = started_once m z };
-  homed = started_homed m z;
-}
+unfolding started
+starts m z = record { well = started_well m z; tags = refl; slots = refl; units = refl; uses = refl }
 
 -- ---- a use put
 module _ (s : Rows) (n k : ℕ) (u : Use) (w : Sound s n) where

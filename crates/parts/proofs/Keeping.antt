@@ -16,9 +16,9 @@ use Rattle.shifting.specs.Offsets.{from_on, Whole}
 use Rattle.shifting.proofs.Laying.{part_length, length_over}
 use Rattle.shifting.proofs.Whole.{whole_mono, whole_below, length_from_on}
 use Rattle.shifting.proofs.Places.{from_before, from_behind, inserted_before, inserted_here, inserted_behind, length_inserted, part_at}
-use Rattle.parts.specs.Parts.{those, stays, squeezed, Rows, begin, end, top, gone, added, dropped, cleared, slot_of, words_of, floats_of, no_words, no_floats}
+use Rattle.parts.specs.Parts.{those, stays, squeezed, Rows, begin, end, top, gone, added, dropped, left, cleared, slot_of, words_of, floats_of, no_words, no_floats}
 use Rattle.parts.specs.Held.{Sized}
-use Rattle.parts.specs.Laws.{one_if, Once, Homed, Sound, Cleared}
+use Rattle.parts.specs.Laws.{one_if, Once, Homed, Sound, Fits, Cleared}
 use Rattle.parts.proofs.Places.{squeezed_before, squeezed_within, squeezed_behind, squeezed_freed, nth, stood}
 use Rattle.parts.proofs.Closing.{tagged}
 use Rattle.parts.proofs.Clearing.{length_cleared, cleared_there}
@@ -175,8 +175,11 @@ module _ (s : Rows) (n : ℕ) (name : Name) (used : Use) (w : Sound s n) (l : n 
   unfolding added
   added_homed m = inserted_home table_of_tag s.offsets s.tags n t h w.offsets w.whole m name.tag (omega (arith, w.sized.tags)) refl
 
+pub fits_of : (m : Rows) (n : ℕ) → Sound m n → Fits m n
+fits_of m n w = record { sized = w.sized; room = w.room; offsets = w.offsets; whole = w.whole }
+
 -- ---- a drop
-module _ (s : Rows) (n t now : ℕ) (w : Sound s n) (h : t < 64) where
+module _ (s : Rows) (n t now : ℕ) (w : Fits s n) (h : t < 64) where
   abbrev D : ℕ
   D = length (gone s t now)
 
@@ -220,12 +223,6 @@ module _ (s : Rows) (n t now : ℕ) (w : Sound s n) (h : t < 64) where
   unfolding dropped
   dropped_room = omega (arith, w.room, length_cleared no_words s.units (gone s t now))
 
-  dropped_once : Once (dropped s n t now) (n - D)
-  dropped_once x = dropped_standing s n t now w.sized w.room rise inside x ∙ w.once x ∙ same
-    where
-      same : one_if (ltb x (length s.units)) ≡ one_if (ltb x (length (dropped s n t now).units))
-      same = unfold dropped in ap (λ (k : ℕ). one_if (ltb x k)) (sym (length_cleared no_words s.units (gone s t now)))
-
   dropped_offsets : length (dropped s n t now).offsets ≡ 65
   unfolding dropped
   dropped_offsets = let z = w.offsets in length_from_on (λ (o : ℕ). o - D) s.offsets (t + 1) (omega arith) ∙ z
@@ -234,8 +231,8 @@ module _ (s : Rows) (n t now : ℕ) (w : Sound s n) (h : t < 64) where
   unfolding dropped
   dropped_whole = from_whole (λ (o : ℕ). o - D) (λ a b q. omega arith) s.offsets n t h w.offsets (omega (arith, counts, rise)) w.whole
 
-  pub dropped_sound : Sound (dropped s n t now) (n - D)
-  dropped_sound = record { sized = dropped_sized; room = dropped_room; offsets = dropped_offsets; whole = dropped_whole; once = dropped_once }
+  pub dropped_fits : Fits (dropped s n t now) (n - D)
+  dropped_fits = record { sized = dropped_sized; room = dropped_room; offsets = dropped_offsets; whole = dropped_whole }
 
   pub dropped_homed : Homed s → Homed (dropped s n t now)
   unfolding dropped
@@ -261,3 +258,16 @@ module _ (s : Rows) (n t now : ℕ) (w : Sound s n) (h : t < 64) where
         subst (λ (r : ℕ). get_or (cleared no_floats s.uses (gone s t now)) (slot_of (get_or (gone s t now) k 0) r) [] ≡ no_floats) e
             (cleared_there [] no_floats s.uses (gone s t now) k (omega (arith, w.sized.some)) l),
       )
+
+module _ (s : Rows) (n t now : ℕ) (w : Sound s n) (h : t < 64) where
+  abbrev g : Fits s n
+  g = fits_of s n w
+
+  dropped_once : Once (dropped s n t now) (left s n t now)
+  dropped_once x = dropped_standing s n t now w.sized w.room (rise s n t now g h) (inside s n t now g h) x ∙ w.once x ∙ same
+    where
+      same : one_if (ltb x (length s.units)) ≡ one_if (ltb x (length (dropped s n t now).units))
+      same = unfold dropped in ap (λ (k : ℕ). one_if (ltb x k)) (sym (length_cleared no_words s.units (gone s t now)))
+
+  pub dropped_sound : Sound (dropped s n t now) (left s n t now)
+  dropped_sound = let f = dropped_fits s n t now g h in record { sized = f.sized; room = f.room; offsets = f.offsets; whole = f.whole; once = dropped_once }

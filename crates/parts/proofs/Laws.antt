@@ -13,11 +13,11 @@ use Rattle.shifting.specs.Shifting.{part}
 use Rattle.shifting.proofs.Laying.{part_length}
 use Rattle.shifting.proofs.Places.{part_at}
 use Rattle.parts.specs.Parts.{Rows, begin, end, those, stays, goes, is_stale, RETAIN_MS}
-use Rattle.parts.specs.Laws.{Sound, record_at, listed, stale, without, Comes, Leave, Move, Stays}
+use Rattle.parts.specs.Laws.{Fits, record_at, listed, stale, without, Comes, Leave, Move, Stays}
 use Rattle.parts.proofs.Listing.{no_record, length_listed, listed_at}
-use Rattle.parts.proofs.Keeping.{added_sound, added_homed, dropped_sound, dropped_homed, dropped_freed, dropped_cleared, inside}
+use Rattle.parts.proofs.Keeping.{fits_of, added_sound, added_homed, dropped_sound, dropped_homed, dropped_freed, dropped_cleared, inside}
 use Rattle.parts.proofs.Begun.{put_sound, put_homed}
-use Rattle.parts.proofs.Dropping.{words_stay, floats_stay, dropped_listed, came, came_rises, came_tag, came_slot, dropped_every}
+use Rattle.parts.proofs.Dropping.{words_stay, floats_stay, dropped_listed, dropped_every, stood_at, stood_rises, stood_low, stood_tag, stood_slot}
 use Rattle.parts.proofs.Inserting.{added_listed, added_every}
 use Rattle.parts.proofs.Putting.{put_listed, put_every}
 
@@ -62,7 +62,7 @@ those_without d p q i (x ∷ xs) h =
     by false true e r = r
     by false false e r = absurd (cc)
 
-module _ (m : Rows) (n t at_ms : ℕ) (s : Sound m n) (h : t < 64) where
+module _ (m : Rows) (n t at_ms : ℕ) (s : Fits m n) (h : t < 64) where
   part_stays : those (stays m.slots m.units at_ms) (begin m t) (part (listed m n) (begin m t) (end m t)) ≡ without (stale at_ms) (part (listed m n) (begin m t) (end m t))
   part_stays = those_without no_record (stays m.slots m.units at_ms) (stale at_ms) (begin m t) (part (listed m n) (begin m t) (end m t)) (λ k l.
       let u = part_length (listed m n) (begin m t) (end m t) (omega (arith, length_listed m n, inside m n t at_ms s h)) in
@@ -72,20 +72,21 @@ module _ (m : Rows) (n t at_ms : ℕ) (s : Sound m n) (h : t < 64) where
 pub leave : Leave
 unfolding part
 leave m n t at_ms s h = record {
-  list = dropped_listed m n t at_ms s h ∙ ap (λ (l : List Record). (take (begin m t) (listed m n) ++ l) ++ drop (end m t) (listed m n)) (part_stays m n t at_ms s h);
+  list = dropped_listed m n t at_ms s h ∙ ap (λ (l : List Record). (take (begin m t) (listed m n) ++ l) ++ drop (end m t) (listed m n)) (part_stays m n t at_ms (fits_of m n s) h);
   sound = dropped_sound m n t at_ms s h;
-  well = λ home. record { sound = dropped_sound m n t at_ms s h; homed = dropped_homed m n t at_ms s h home };
+  well = λ home. record { sound = dropped_sound m n t at_ms s h; homed = dropped_homed m n t at_ms (fits_of m n s) h home };
   every = dropped_every m n t at_ms s h;
-  freed = dropped_freed m n t at_ms s h;
-  cleared = dropped_cleared m n t at_ms s h;
+  freed = dropped_freed m n t at_ms (fits_of m n s) h;
+  cleared = dropped_cleared m n t at_ms (fits_of m n s) h;
 }
 
 pub move : Move
 move m n t at_ms s h = record {
-  from = came m n t at_ms s h;
-  rises = came_rises m n t at_ms s h;
-  tag = came_tag m n t at_ms s h;
-  slot = came_slot m n t at_ms s h;
+  from = stood_at m t at_ms;
+  rises = stood_rises m n t at_ms (fits_of m n s) h;
+  within = stood_low m n t at_ms (fits_of m n s) h;
+  tag = stood_tag m n t at_ms (fits_of m n s) h;
+  slot = stood_slot m n t at_ms (fits_of m n s) h;
   units = words_stay m n t at_ms s h;
   uses = floats_stay m n t at_ms s h;
 }

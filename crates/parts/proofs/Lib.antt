@@ -12,6 +12,7 @@ pub mod Passing
 pub mod Behind
 pub mod Finding
 pub mod Listing
+pub mod Staying
 pub mod Dropping
 pub mod Inserting
 pub mod Putting
