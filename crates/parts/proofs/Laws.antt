@@ -20,6 +20,7 @@ use Rattle.parts.proofs.Begun.{put_sound, put_homed}
 use Rattle.parts.proofs.Dropping.{words_stay, floats_stay, dropped_listed, dropped_every, stood_at, stood_rises, stood_low, stood_tag, stood_slot}
 use Rattle.parts.proofs.Inserting.{added_listed, added_every}
 use Rattle.parts.proofs.Putting.{put_listed, put_every}
+use Rattle.parts.proofs.Stale.{stays_at, those_without}
 
 pub comes : Comes
 comes m n name u s l h = record {
@@ -36,31 +37,6 @@ puts m n k u s l = record {
   well = λ home. record { sound = put_sound m n k u s; homed = put_homed m n k u s home };
   every = put_every m n k u s l;
 }
-
--- ---- the test of a place as one of a record
-old : (stamp at_ms : ℕ) → ltb RETAIN_MS (at_ms - stamp) ≡ ltb (stamp + 8000) at_ms
-old stamp at_ms = elim (dec_lt (stamp + 8000) at_ms) [
-  | yes h ↦ lt-ltb _ (at_ms - stamp) (omega arith) ∙ sym (lt-ltb (stamp + 8000) at_ms h)
-  | no h ↦ le-ltb _ (at_ms - stamp) (omega arith) ∙ sym (le-ltb (stamp + 8000) at_ms (omega arith))
-]
-
-stays_at : (m : Rows) (at_ms k : ℕ) → stays m.slots m.units at_ms k ≡ not (stale at_ms (record_at m k))
-unfolding stays goes is_stale stamp_at stale record_at
-stays_at m at_ms k = ap not (old _ at_ms)
-
--- those at whose places p holds, where p says that q does not hold of what stands there
-those_without : (d : Record) (p : ℕ → Bool) (q : Record → Bool) (i : ℕ) (xs : List Record) → ((k : ℕ) → k < length xs → p (i + k) ≡ not (q (get_or xs k d))) → those p i xs ≡ without q xs
-unfolding those without
-those_without d p q i [] h = refl
-those_without d p q i (x ∷ xs) h =
-    let z : i + 0 ≡ i = omega arith in
-    by (p i) (q x) (ap p (sym z) ∙ h 0 (omega arith)) (those_without d p q (suc i) xs (λ k l. let y : suc i + k ≡ i + suc k = omega arith in ap p y ∙ h (suc k) (omega arith)))
-  where
-    by : (b c : Bool) → b ≡ not c → those p (suc i) xs ≡ without q xs → cond b (x ∷ those p (suc i) xs) (those p (suc i) xs) ≡ cond c (without q xs) (x ∷ without q xs)
-    by true true e r = absurd (cc)
-    by true false e r = ap (λ (l : List Record). x ∷ l) r
-    by false true e r = r
-    by false false e r = absurd (cc)
 
 module _ (m : Rows) (n t at_ms : ℕ) (s : Fits m n) (h : t < 64) where
   part_stays : those (stays m.slots m.units at_ms) (begin m t) (part (listed m n) (begin m t) (end m t)) ≡ without (stale at_ms) (part (listed m n) (begin m t) (end m t))

@@ -17,4 +17,7 @@ pub mod Dropping
 pub mod Inserting
 pub mod Putting
 pub mod Searching
+pub mod Apart
+pub mod Stale
+pub mod Cleared
 pub mod Laws
