@@ -1,14 +1,11 @@
 -- A search reads the part of the unit's table alone. Assumes nothing.
-use mathlib.Core.Path.{◌≡◌, sym, ap, ◌∙◌}
+use mathlib.Core.Path.{◌≡◌, ap, ◌∙◌}
 use mathlib.Core.Bool.{Bool, ◌&&◌}
 use mathlib.Core.List.{List, []}
 use Prim.Native.Nat.{ℕ, ◌+◌, ◌-◌, ◌<◌, ◌≤◌}
 use native.Mathlib.Omega.{arith}
-use lib.Dec.{eqb}
 use lib.ListN.{get_or}
-use Rattle.std.specs.Prelude.{Option}
 use Rattle.sender.specs.declared.Name.{Name}
-use Rattle.sender.specs.declared.Words.{Words}
 use Rattle.sender.specs.Sender.{table_of_tag}
 use Rattle.store.specs.Store.{first, has_tag, words_at}
 use Rattle.store.specs.Found.{found}

@@ -12,7 +12,7 @@ use Rattle.shifting.specs.Shifting.{part}
 use Rattle.shifting.proofs.Laying.{part_length}
 use Rattle.shifting.proofs.Places.{later, part_at}
 use Rattle.parts.specs.Parts.{Rows, begin, end, those, stays, goes, gone, dropped, left, slot_of, slot_at, no_words, no_floats}
-use Rattle.parts.specs.Laws.{Entry, entry_at, entries, of_entry, stale, record_at, without, Fits, Goes, Cleared, Clears, Clear}
+use Rattle.parts.specs.Laws.{Entry, entry_at, entries, of_entry, stale, record_at, without, Fits, Goes, Cleared, Clear}
 use Rattle.parts.proofs.Places.{nth, stood}
 use Rattle.parts.proofs.Listing.{cleared_other}
 use Rattle.parts.proofs.Keeping.{inside, dropped_fits, dropped_cleared}

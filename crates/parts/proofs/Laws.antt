@@ -1,19 +1,16 @@
 -- What the calls leave of the records. Assumes nothing.
-use mathlib.Core.Path.{◌≡◌, refl, sym, ap, ◌∙◌}
-use mathlib.Core.Bool.{Bool, true, false, cond, not}
-use mathlib.Core.List.{List, [], ◌∷◌, ◌++◌}
-use Prim.Native.Nat.{ℕ, suc, ◌+◌, ◌-◌, ◌<◌}
+use mathlib.Core.Path.{◌≡◌, sym, ap, ◌∙◌}
+use mathlib.Core.Bool.{not}
+use mathlib.Core.List.{List, ◌++◌}
+use Prim.Native.Nat.{ℕ, ◌+◌, ◌<◌}
 use native.Mathlib.Omega.{arith}
-use native.Mathlib.Decide.{dec_lt}
-use lib.Dec.{ltb}
-use lib.ListN.{length, get_or, take, drop}
-use borrow.Author.Tests.{lt-ltb, le-ltb}
-use Rattle.store.specs.Store.{Record, stamp_at}
+use lib.ListN.{take, drop}
+use Rattle.store.specs.Store.{Record}
 use Rattle.shifting.specs.Shifting.{part}
 use Rattle.shifting.proofs.Laying.{part_length}
 use Rattle.shifting.proofs.Places.{part_at}
-use Rattle.parts.specs.Parts.{Rows, begin, end, those, stays, goes, is_stale, RETAIN_MS}
-use Rattle.parts.specs.Laws.{Fits, record_at, listed, stale, without, Comes, Leave, Move, Stays}
+use Rattle.parts.specs.Parts.{Rows, begin, end, those, stays}
+use Rattle.parts.specs.Laws.{Fits, listed, stale, without, Comes, Leave, Move, Stays}
 use Rattle.parts.proofs.Listing.{no_record, length_listed, listed_at}
 use Rattle.parts.proofs.Keeping.{fits_of, added_sound, added_homed, dropped_sound, dropped_homed, dropped_freed, dropped_cleared, inside}
 use Rattle.parts.proofs.Begun.{put_sound, put_homed}

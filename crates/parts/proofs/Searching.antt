@@ -25,7 +25,7 @@ use Rattle.parts.specs.Held.{Sized, Ready}
 use Rattle.parts.specs.Laws.{Homed, Searches}
 
 -- every place below the end lies in a part
-lies : (os : List ℕ) (n k : ℕ) → Whole os n → k < n → (t : ℕ) × (t < 64) × (get_or os t 0 ≤ k) × (k < get_or os (t + 1) 0)
+pub lies : (os : List ℕ) (n k : ℕ) → Whole os n → k < n → (t : ℕ) × (t < 64) × (get_or os t 0 ≤ k) × (k < get_or os (t + 1) 0)
 lies os n k w h = from 64 (omega arith) (omega (arith, w.ends))
   where
     from : (i : ℕ) → i ≤ 64 → k < get_or os i 0 → (t : ℕ) × (t < 64) × (get_or os t 0 ≤ k) × (k < get_or os (t + 1) 0)
