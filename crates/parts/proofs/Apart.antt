@@ -28,7 +28,7 @@ module _ (m k : Rows) (name : Name) (g : Agree m k (table_of_tag name.tag)) wher
 
   same_test : (i : ℕ) → begin m t ≤ i → i < end m t → is m i ≡ is k i
   unfolding has_tag
-  same_test i h l = rw (g.tags i h l, same_words m.units k.units (slot_at m i) (slot_at k i) (g.words i h l)) 
+  same_test i h l = rw (g.tags i h l, same_words m.units k.units (slot_at m i) (slot_at k i) (g.words i h l))
 
   same_find : find m name ≡ find k name
   unfolding find find_within

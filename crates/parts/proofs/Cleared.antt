@@ -37,8 +37,8 @@ entries_at d m (suc n) k h = elim (dec_le n k) [
 abbrev an_entry : ℕ → ℕ → Entry
 an_entry tag slot = record { tag = tag; slot = slot }
 
-no_entry : Entry
-no_entry = an_entry 0 0
+zero_entry : Entry
+zero_entry = an_entry 0 0
 
 same_entry : (a a' b b' : ℕ) → a ≡ a' → b ≡ b' → an_entry a b ≡ an_entry a' b'
 same_entry a a' b b' p q = cc
@@ -81,9 +81,9 @@ module _ (m : Rows) (n t at_ms : ℕ) (w : Fits m n) (h : t < 64) where
   entry_stays k = stays_at m at_ms k ∙ ap (λ (r : Record). not (stale at_ms r)) (unfold record_at of_entry entry_at in refl)
 
   part_stays : those (stays m.slots m.units at_ms) a (part E a b) ≡ without (λ (e : Entry). stale at_ms (of_entry m e)) (part E a b)
-  part_stays = those_without no_entry (stays m.slots m.units at_ms) (λ (e : Entry). stale at_ms (of_entry m e)) a (part E a b) (λ k l.
+  part_stays = those_without zero_entry (stays m.slots m.units at_ms) (λ (e : Entry). stale at_ms (of_entry m e)) a (part E a b) (λ k l.
       let u = part_length E a b (omega (arith, length_entries m n, within)) in
-      let e = part_at no_entry E a b k (omega arith) ∙ entries_at no_entry m n (a + k) (omega (arith, within)) in
+      let e = part_at zero_entry E a b k (omega arith) ∙ entries_at zero_entry m n (a + k) (omega (arith, within)) in
       entry_stays (a + k) ∙ ap (λ (x : Entry). not (stale at_ms (of_entry m x))) (sym e))
 
   entry_came : (k : ℕ) → k < left m n t at_ms → entry_at S k ≡ entry_at m (stood_at m t at_ms k)
@@ -92,8 +92,8 @@ module _ (m : Rows) (n t at_ms : ℕ) (w : Fits m n) (h : t < 64) where
 
   list : entries S (left m n t at_ms) ≡ (take a E ++ without (λ (e : Entry). stale at_ms (of_entry m e)) (part E a b)) ++ drop b E
   list =
-      stood_list m n t at_ms w h no_entry E (entries S (left m n t at_ms)) (length_entries m n) (length_entries S (left m n t at_ms))
-      (λ k l. entries_at no_entry S (left m n t at_ms) k l ∙ entry_came k l ∙ sym (entries_at no_entry m n (stood_at m t at_ms k) (stood_low m n t at_ms w h k l)))
+      stood_list m n t at_ms w h zero_entry E (entries S (left m n t at_ms)) (length_entries m n) (length_entries S (left m n t at_ms))
+      (λ k l. entries_at zero_entry S (left m n t at_ms) k l ∙ entry_came k l ∙ sym (entries_at zero_entry m n (stood_at m t at_ms k) (stood_low m n t at_ms w h k l)))
       ∙ ap (λ (l : List Entry). (take a E ++ l) ++ drop b E) part_stays
 
   -- ---- the slots

@@ -73,8 +73,16 @@ module _ (m : Rows) (n t at_ms : ℕ) (rs : List Record) (g : Arrived m n rs) (h
       let a = up in
       let b = below in
       let c = few in
-      omega (arith, ap length list, length_listed S (n - D), length-append (take (begin m t) L' ++ K) (drop (end m t) L'), length-append (take (begin m t) L') K,
-          length-take-le (begin m t) L' (omega (arith, length_listed m n)), length-drop (end m t) L', length_listed m n)
+      omega (
+        arith,
+        ap length list,
+        length_listed S (n - D),
+        length-append (take (begin m t) L' ++ K) (drop (end m t) L'),
+        length-append (take (begin m t) L') K,
+        length-take-le (begin m t) L' (omega (arith, length_listed m n)),
+        length-drop (end m t) L',
+        length_listed m n,
+      )
 
   others_of : (v : ℕ) → (t ≡ v → ⊥) → of_table v rs' ≡ of_table v rs
   unfolding of_table leaves
