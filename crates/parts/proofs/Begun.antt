@@ -27,12 +27,16 @@ module _ (m : Rows) (z : Sized m) where
   none : (x : ℕ) → times x [] ≡ 0
   none x = unfold times in refl
 
-  started_once : Once (started m) 0
+  -- each slot is free, once
+  free_once : (x : ℕ) → times x (take (length (started m).units - 0) (started m).free) ≡ one_if (ltb x (length (started m).units))
   unfolding started
-  started_once x =
+  free_once x =
       let zf = z.free in
-      let e = ap (times x) (take_all (length m.units - 0) (down (length m.free)) (omega (arith, down_long (length m.free)))) ∙ down_times x (length m.free) ∙ ap (λ (k : ℕ). one_if (ltb x k)) zf in
-      omega (arith, e, none x)
+      ap (times x) (take_all (length m.units - 0) (down (length m.free)) (omega (arith, down_long (length m.free))))
+      ∙ down_times x (length m.free) ∙ ap (λ (k : ℕ). one_if (ltb x k)) zf
+
+  started_once : Once (started m) 0
+  started_once x = omega (arith, free_once x, none x)
 
   started_whole : Whole (started m).offsets 0
   unfolding started
