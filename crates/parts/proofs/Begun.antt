@@ -22,7 +22,9 @@ zeros k h = get_or-replicate {A = ℕ} 65 k 0 0 h
 module _ (m : Rows) (z : Sized m) where
   started_sized : Sized (started m)
   unfolding started
-  started_sized = record { some = z.some; most = z.most; tags = z.tags; slots = z.slots; free = down_long (length m.free) ∙ z.free; uses = z.uses }
+  started_sized =
+      let f = z.free in
+      record { some = z.some; most = z.most; tags = z.tags; slots = z.slots; free = omega (arith, down_long (length m.free)); uses = z.uses }
 
   none : (x : ℕ) → times x [] ≡ 0
   none x = unfold times in refl
