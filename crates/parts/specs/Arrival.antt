@@ -1,5 +1,5 @@
--- The store beside a list of the records in order of arrival: of each table both have the same records in the same order, before and
--- after each call. Statements only; proofs/Arrival.antt proves them.
+-- The store beside a list of the records in order of arrival: of each table both have the same records in the same order, from a start on.
+-- Statements only; proofs/Arrival, Departing and Changing prove them.
 use Rattle.std.specs.Prelude.{ℕ, ◌+◌, ◌<◌, ◌≡◌, Bool, not, ◌&&◌, List, [], ◌∷◌, ◌++◌, eqb, length, get_or, set}
 use Rattle.flow.specs.declared.Use.{Use}
 use Rattle.sender.specs.declared.Name.{Name}
