@@ -9,6 +9,9 @@ pub mod Slots
 pub mod Keeping
 pub mod Begun
 pub mod Passing
+pub mod Squeezing
+pub mod Past
+pub mod Copying
 pub mod Behind
 pub mod Finding
 pub mod Listing
@@ -17,3 +20,4 @@ pub mod Inserting
 pub mod Putting
 pub mod Searching
 pub mod Laws
+pub mod Copied
