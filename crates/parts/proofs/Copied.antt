@@ -8,17 +8,19 @@ use native.Mathlib.Omega.{arith}
 use native.Mathlib.Decide.{dec_lt}
 use lib.ListN.{length, get_or, take, drop, replicate, length-append}
 use lib.Dec.{ltb}
+use lib.Seq.{get_or-take}
 use borrow.Author.Tests.{lt-ltb, le-ltb, le-leb, lt-leb}
 use Rattle.store.specs.Store.{None, first}
 use Rattle.store.proofs.Steps.{first_least, first_holds, first_found, first_all}
-use Rattle.shifting.specs.Shifting.{over, part}
+use Rattle.shifting.specs.Shifting.{over, part, down}
+use Rattle.shifting.proofs.Down.{down_at, down_long}
 use Rattle.shifting.specs.Offsets.{Whole}
 use Rattle.shifting.proofs.Laying.{over_take, over_over, part_length}
 use Rattle.shifting.proofs.Whole.{whole_below}
 use Rattle.parts.specs.Parts.{those, goes, squeezed, Rows, begin, end, gone, dropped, left, no_words, no_floats, slot_of}
 use Rattle.parts.specs.Parts as parts
 use Rattle.parts.specs.Held.{Sized}
-use Rattle.parts.specs.Copies.{Copy, copy_at, drops, first_dropped, going_down, copies, copied_from, ran, Copied, Once_each, Rows_lie}
+use Rattle.parts.specs.Copies.{Copy, copy_at, drops, first_dropped, going_down, copies, copied_from, ran, carried, Copied, Once_each, No_other_way, Rows_lie}
 use Rattle.parts.proofs.Sifting.{stays_not}
 use Rattle.parts.proofs.Places.{squeezed_front}
 use Rattle.parts.proofs.Closing.{gone_count}
@@ -26,7 +28,8 @@ use Rattle.parts.proofs.Passing.{none_left, none_dropped}
 use Rattle.parts.proofs.Listing.{cleared_other}
 use Rattle.parts.proofs.Dropping.{words_stay, floats_stay}
 use Rattle.parts.proofs.Past.{those_join, those_same, those_all, those_long, part_join, past_long, squeezed_past}
-use Rattle.parts.proofs.Copying.{length_down, down_gone, before, behind, leaves, stays, most, from_at, to_at, ran_down}
+use Rattle.parts.proofs.Copying.{length_down, down_gone, before, behind, leaves, stays, most, from_at, to_at, high_at, rises_at, ran_down, ran_at}
+use Rattle.parts.proofs.Carrying.{Apart, uncarried, carried_once}
 
 -- ---- the first that is dropped
 most_case : (n f : ℕ) (b c : Bool) → f ≤ n → cond b f (cond c n (suc n)) ≤ suc n
@@ -239,6 +242,63 @@ module _ (m : Rows) (n t now : ℕ) (z : Sized m) (w : Whole m.offsets n) (r : n
   often : (k : ℕ) → copied_from (copies m n t now) k ≡ copied_from (going_down E (n - F) F F) k
   unfolding copies
   often k = refl
+
+  -- ---- copies of any places that make the index
+  abbrev C : ℕ
+  C = length (copies m n t now)
+
+  abbrev from_of : ℕ → ℕ
+  from_of a = (copy_at (copies m n t now) a).from
+
+  put_at : (a : ℕ) → a < C → get_or (ran (copies m n t now) (down n)) (F + a) 0 ≡ get_or (down n) (from_of a) 0
+  unfolding copies
+  put_at a l = ran_at E (n - F) F F a (down n) (omega arith) (omega (arith, along, down_long n)) l
+
+  went_to : (a : ℕ) → a < C → (copy_at (copies m n t now) a).to ≡ F + a
+  unfolding copies
+  went_to a l = to_at E (n - F) F F a l
+
+  came_high : (a : ℕ) → a < C → from_of a < n
+  unfolding copies
+  came_high a l = omega (arith, along, high_at E (n - F) F F a l)
+
+  came_rising : (a b : ℕ) → a < b → b < C → from_of a < from_of b
+  unfolding copies
+  came_rising a b u l = rises_at E (n - F) F F a b u l
+
+  came_low : (a : ℕ) → a < C → F + a < from_of a
+  came_low a l = omega (arith, goes_down a l, went_to a l)
+
+  abbrev label : ℕ → ℕ
+  label a = get_or (ran (copies m n t now) (down n)) (F + a) 0
+
+  label_is : (a : ℕ) → a < C → label a ≡ n - 1 - from_of a
+  label_is a l = put_at a l ∙ down_at n (from_of a) (came_high a l)
+
+  labels_apart : Apart label C
+  labels_apart a b u l q = absurd (omega (arith, label_is a (omega arith), label_is b l, came_rising a b u l, came_high b l))
+
+  module _ (cs : List Copy) (few : length cs ≤ C) (same : take (left m n t now) (ran cs (down n)) ≡ take (left m n t now) (ran (copies m n t now) (down n))) where
+    same_at : (a : ℕ) → a < C → get_or (ran cs (down n)) (F + a) 0 ≡ label a
+    same_at a l =
+        let b : F + a < left m n t now = omega (arith, total_is) in
+        sym (get_or-take (left m n t now) (ran cs (down n)) (F + a) 0 b) ∙ ap (λ (r : List ℕ). get_or r (F + a) 0) same ∙ get_or-take (left m n t now) (ran (copies m n t now) (down n)) (F + a) 0 b
+
+    -- its label did not stand there before, so it was carried there
+    each_carried : (a : ℕ) → a < C → 1 ≤ carried cs (down n) (label a)
+    each_carried a l = elim (dec_lt 0 (carried cs (down n) (label a))) [
+      | yes h ↦ h
+      | no h ↦ (let u = came_low a l in
+          let v = came_high a l in
+          let q = uncarried cs (down n) (label a) (F + a) (omega arith) (omega (arith, down_long n)) (same_at a l) in
+          absurd (omega (arith, label_is a l, down_at n (F + a) (omega arith))))
+    ]
+
+    pub carries_once : (x : ℕ) → carried cs (down n) x ≤ 1
+    carries_once x = carried_once cs (down n) label C x labels_apart each_carried few
+
+pub no_other_way : No_other_way
+no_other_way m n t now z w r h cs few same x = carries_once m n t now z w r h cs few same x
 
 pub once_each : Once_each
 once_each m n t now z w r h =

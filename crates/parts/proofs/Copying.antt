@@ -7,8 +7,8 @@ use native.Mathlib.Nat.{add-zero}
 use native.Mathlib.Omega.{arith}
 use native.Mathlib.Decide.{dec_lt, dec_le, ℕ_discrete}
 use lib.Dec.{eqb}
-use lib.ListN.{length, get_or, set, take, drop}
-use lib.Seq.{drop-cons, drop-drop, take-add}
+use lib.ListN.{length, get_or, set, take, drop, length-set}
+use lib.Seq.{get_or-set_same, get_or-set_other, drop-cons, drop-drop, take-add}
 use borrow.Author.Tests.{eq-eqb, ne_eqb}
 use Rattle.shifting.specs.Shifting.{over, part}
 use Rattle.shifting.proofs.Laying.{over_nil, over_snoc, over_over, length_over, part_none, part_beyond}
@@ -121,6 +121,33 @@ module _ (p : ℕ → Bool) where
       by false zero r s l = omega arith
       by false (suc a) r s l = omega (arith, s a (omega arith))
 
+  pub high_at : (c i j a : ℕ) → a < length (going_down p c i j) → (copy_at (going_down p c i j) a).from < i + c
+  unfolding going_down
+  high_at zero i j a h = absurd (omega arith)
+  high_at (suc c) i j a h = by (p i) a (high_at c (suc i) j) (high_at c (suc i) (suc j)) h
+    where
+      by : (b : Bool) (a : ℕ) → ((a : ℕ) → a < length (going_down p c (suc i) j) → (copy_at (going_down p c (suc i) j) a).from < suc i + c)
+          → ((a : ℕ) → a < length (going_down p c (suc i) (suc j)) → (copy_at (going_down p c (suc i) (suc j)) a).from < suc i + c)
+          → a < length (cond b (going_down p c (suc i) j) (copy i j ∷ going_down p c (suc i) (suc j)))
+          → (copy_at (cond b (going_down p c (suc i) j) (copy i j ∷ going_down p c (suc i) (suc j))) a).from < i + suc c
+      by true a r s l = omega (arith, r a l)
+      by false zero r s l = omega arith
+      by false (suc a) r s l = omega (arith, s a (omega arith))
+
+  pub rises_at : (c i j a b : ℕ) → a < b → b < length (going_down p c i j) → (copy_at (going_down p c i j) a).from < (copy_at (going_down p c i j) b).from
+  unfolding going_down
+  rises_at zero i j a b u h = absurd (omega arith)
+  rises_at (suc c) i j a b u h = by (p i) a b (rises_at c (suc i) j) (rises_at c (suc i) (suc j)) u h
+    where
+      by : (k : Bool) (a b : ℕ) → ((a b : ℕ) → a < b → b < length (going_down p c (suc i) j) → (copy_at (going_down p c (suc i) j) a).from < (copy_at (going_down p c (suc i) j) b).from)
+          → ((a b : ℕ) → a < b → b < length (going_down p c (suc i) (suc j)) → (copy_at (going_down p c (suc i) (suc j)) a).from < (copy_at (going_down p c (suc i) (suc j)) b).from)
+          → a < b → b < length (cond k (going_down p c (suc i) j) (copy i j ∷ going_down p c (suc i) (suc j)))
+          → (copy_at (cond k (going_down p c (suc i) j) (copy i j ∷ going_down p c (suc i) (suc j))) a).from < (copy_at (cond k (going_down p c (suc i) j) (copy i j ∷ going_down p c (suc i) (suc j))) b).from
+      by true a b r s u l = r a b u l
+      by false a zero r s u l = absurd (omega arith)
+      by false zero (suc b) r s u l = omega (arith, from_at c (suc i) (suc j) b (omega arith))
+      by false (suc a) (suc b) r s u l = s a b (omega arith) (omega arith)
+
   -- ---- what they leave: of the places passed over, the entries that stay lie behind one another from j on
   part_cons : (xs : List ℕ) (i c : ℕ) → i + suc c ≤ length xs → part xs i (i + suc c) ≡ get_or xs i 0 ∷ part xs (suc i) (suc i + c)
   unfolding part
@@ -153,6 +180,10 @@ module _ (p : ℕ → Bool) where
   unfolding ran going_down
   ran_none i j xs = refl
 
+  none_down : (i j : ℕ) → going_down p zero i j ≡ []
+  unfolding going_down
+  none_down i j = refl
+
   ran_one : (i j : ℕ) (cs : List Copy) (xs : List ℕ) → ran (copy i j ∷ cs) xs ≡ ran cs (set xs j (get_or xs i 0))
   unfolding ran
   ran_one i j cs xs = refl
@@ -181,3 +212,50 @@ module _ (p : ℕ → Bool) where
           ∙ ap (λ (r : List ℕ). over ys (suc j) (K (suc i) r)) (part_beyond xs j (x ∷ []) (suc i) (suc i + c) (omega arith) (omega arith))
           ∙ over_over xs j (suc j) (x ∷ []) (K (suc i) rest) (omega arith) (omega arith)
           ∙ ap (over xs j) (sym (those_kept i x rest e) ∙ ap (K i) (sym (part_cons xs i c l)))
+
+  -- what stands then at a place
+  pub ran_before : (c i j y : ℕ) (xs : List ℕ) → y < j → get_or (ran (going_down p c i j) xs) y 0 ≡ get_or xs y 0
+  ran_before zero i j y xs h = ap (λ (r : List ℕ). get_or r y 0) (ran_none i j xs)
+  ran_before (suc c) i j y xs h = by (p i) refl (ran_before c (suc i) j y xs h) (ran_before c (suc i) (suc j) y (set xs j (get_or xs i 0)) (omega arith))
+    where
+      x : ℕ
+      x = get_or xs i 0
+
+      by : (b : Bool) → p i ≡ b → get_or (ran (going_down p c (suc i) j) xs) y 0 ≡ get_or xs y 0 → get_or (ran (going_down p c (suc i) (suc j)) (set xs j x)) y 0 ≡ get_or (set xs j x) y 0
+          → get_or (ran (going_down p (suc c) i j) xs) y 0 ≡ get_or xs y 0
+      by true e r s = ap (λ (cs : List Copy). get_or (ran cs xs) y 0) (down_gone c i j e) ∙ r
+      by false e r s =
+          ap (λ (cs : List Copy). get_or (ran cs xs) y 0) (down_kept c i j e) ∙ ap (λ (l : List ℕ). get_or l y 0) (ran_one i j (going_down p c (suc i) (suc j)) xs) ∙ s
+          ∙ get_or-set_other xs j y x 0 (λ q. absurd (omega arith))
+
+  pub ran_at : (c i j a : ℕ) (xs : List ℕ) → j ≤ i → i + c ≤ length xs → a < length (going_down p c i j) → get_or (ran (going_down p c i j) xs) (j + a) 0 ≡ get_or xs (copy_at (going_down p c i j) a).from 0
+  ran_at zero i j a xs h l m = absurd (omega (arith, ap length (none_down i j)))
+  ran_at (suc c) i j a xs h l m =
+      by (p i) a refl (λ k. ran_at c (suc i) j k xs (omega arith) (omega arith)) (λ k. ran_at c (suc i) (suc j) k (set xs j (get_or xs i 0)) (omega arith) (omega (arith, length-set xs j (get_or xs i 0)))) m
+    where
+      x : ℕ
+      x = get_or xs i 0
+
+      ys : List ℕ
+      ys = set xs j x
+
+      N : List Copy
+      N = going_down p c (suc i) (suc j)
+
+      by : (b : Bool) (a : ℕ) → p i ≡ b → ((k : ℕ) → k < length (going_down p c (suc i) j) → get_or (ran (going_down p c (suc i) j) xs) (j + k) 0 ≡ get_or xs (copy_at (going_down p c (suc i) j) k).from 0)
+          → ((k : ℕ) → k < length N → get_or (ran N ys) (suc j + k) 0 ≡ get_or ys (copy_at N k).from 0)
+          → a < length (going_down p (suc c) i j) → get_or (ran (going_down p (suc c) i j) xs) (j + a) 0 ≡ get_or xs (copy_at (going_down p (suc c) i j) a).from 0
+      by true a e r s m =
+          let q = down_gone c i j e in
+          ap (λ (cs : List Copy). get_or (ran cs xs) (j + a) 0) q ∙ r a (omega (arith, ap length q)) ∙ sym (ap (λ (cs : List Copy). get_or xs (copy_at cs a).from 0) q)
+      by false zero e r s m =
+          let q = down_kept c i j e in
+          let z : j + 0 ≡ j = omega arith in
+          ap (λ (cs : List Copy). get_or (ran cs xs) (j + 0) 0) q ∙ ap (λ (k : ℕ). get_or (ran (copy i j ∷ N) xs) k 0) z ∙ ap (λ (t : List ℕ). get_or t j 0) (ran_one i j N xs)
+          ∙ ran_before c (suc i) (suc j) j ys (omega arith) ∙ get_or-set_same xs j x 0 (omega arith) ∙ sym (ap (λ (cs : List Copy). get_or xs (copy_at cs 0).from 0) q)
+      by false (suc a) e r s m =
+          let q = down_kept c i j e in
+          let z : j + suc a ≡ suc j + a = omega arith in
+          let n : a < length N = omega (arith, ap length q) in
+          ap (λ (cs : List Copy). get_or (ran cs xs) (j + suc a) 0) q ∙ ap (λ (k : ℕ). get_or (ran (copy i j ∷ N) xs) k 0) z ∙ ap (λ (t : List ℕ). get_or t (suc j + a) 0) (ran_one i j N xs)
+          ∙ s a n ∙ get_or-set_other xs j (copy_at N a).from x 0 (λ u. absurd (omega (arith, from_at c (suc i) (suc j) a n))) ∙ sym (ap (λ (cs : List Copy). get_or xs (copy_at cs (suc a)).from 0) q)

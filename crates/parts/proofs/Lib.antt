@@ -12,6 +12,7 @@ pub mod Passing
 pub mod Squeezing
 pub mod Past
 pub mod Copying
+pub mod Carrying
 pub mod Behind
 pub mod Finding
 pub mod Listing

@@ -3,6 +3,7 @@
 use Rattle.std.specs.Prelude.{ℕ, zero, suc, ◌+◌, ◌-◌, ◌<◌, ◌≤◌, ◌≡◌, ◌≢◌, Bool, true, false, cond, ◌&&◌, List, [], ◌∷◌, eqb, nat_le, ltb, length, get_or, set, take}
 use Rattle.store.specs.Store.{first}
 use Rattle.shifting.specs.Offsets.{Whole, «PARTS»}
+use Rattle.shifting.specs.Shifting.{down}
 use Rattle.parts.specs.Parts.{Rows, begin, end, slot_at, slot_of, goes, gone, dropped, left}
 use Rattle.parts.specs.Held.{Sized}
 use Rattle.parts.specs.Laws.{one_if, Sound}
@@ -43,6 +44,11 @@ unfoldable pub ran : List Copy → List ℕ → List ℕ
 ran [] xs = xs
 ran (c ∷ cs) xs = ran cs (set xs c.to (get_or xs c.from 0))
 
+-- how often they carry x, from wherever it stands by then
+unfoldable pub carried : List Copy → List ℕ → ℕ → ℕ
+carried [] xs x = 0
+carried (c ∷ cs) xs x = one_if (eqb (get_or xs c.from 0) x) + carried cs (set xs c.to (get_or xs c.from 0)) x
+
 -- the one at place a of the list
 abbrev pub copy_at : List Copy → ℕ → Copy
 copy_at cs a = get_or cs a (copy 0 0)
@@ -73,6 +79,12 @@ pub record Copied (m : Rows) (n table at_ms : ℕ) : Type 0 where
 -- also where two entries name one slot
 abbrev pub Once_each : Type 0
 Once_each = (m : Rows) (n table at_ms : ℕ) → Sized m → Whole m.offsets n → n ≤ length m.units → table < «PARTS» → Copied m n table at_ms
+
+-- Whatever copies are made: if there are no more of them, and they leave the same of a row in which each entry is another number, then they
+-- carry each entry at most once. So the number of copies, with the index that they make, says so of each entry
+abbrev pub No_other_way : Type 0
+No_other_way = (m : Rows) (n table at_ms : ℕ) → Sized m → Whole m.offsets n → n ≤ length m.units → table < «PARTS» → (cs : List Copy) → length cs ≤ length (copies m n table at_ms)
+    → take (left m n table at_ms) (ran cs (down n)) ≡ take (left m n table at_ms) (ran (copies m n table at_ms) (down n)) → (x : ℕ) → carried cs (down n) x ≤ 1
 
 -- where each slot stands once, the rows of each record that is left lie where they lay, as they were: none is ever copied
 pub record Unmoved (m : Rows) (n table at_ms : ℕ) : Type 0 where
