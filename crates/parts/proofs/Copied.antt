@@ -1,12 +1,12 @@
 -- What the copies of a visit come to: they make the index, and each entry is copied at most once. Assumes nothing.
 use mathlib.Core.Path.{◌≡◌, refl, sym, ap, subst, ◌∙◌}
 use mathlib.Core.Bool.{Bool, true, false, cond, not, ◌&&◌, true≢false}
-use mathlib.Core.List.{List, [], ◌∷◌, ◌++◌, append_assoc}
+use mathlib.Core.List.{List, [], ◌++◌}
 use Prim.Native.Nat.{ℕ, zero, suc, ◌+◌, ◌-◌, ◌<◌, ◌≤◌}
-use native.Mathlib.Nat.{add-zero, add-sub_of_le}
+use native.Mathlib.Nat.{add-sub_of_le}
 use native.Mathlib.Omega.{arith}
 use native.Mathlib.Decide.{dec_lt}
-use lib.ListN.{length, get_or, take, drop, replicate, length-append}
+use lib.ListN.{length, get_or, take, length-append}
 use lib.Dec.{ltb}
 use lib.Seq.{get_or-take}
 use borrow.Author.Tests.{lt-ltb, le-ltb, le-leb, lt-leb}
@@ -15,12 +15,12 @@ use Rattle.store.proofs.Steps.{first_least, first_holds, first_found, first_all}
 use Rattle.shifting.specs.Shifting.{over, part, down}
 use Rattle.shifting.proofs.Down.{down_at, down_long}
 use Rattle.shifting.specs.Offsets.{Whole}
-use Rattle.shifting.proofs.Laying.{over_take, over_over, part_length}
+use Rattle.shifting.proofs.Laying.{over_take, part_length}
 use Rattle.shifting.proofs.Whole.{whole_below}
 use Rattle.parts.specs.Parts.{those, goes, squeezed, Rows, begin, end, gone, dropped, left, no_words, no_floats, slot_of}
 use Rattle.parts.specs.Parts as parts
 use Rattle.parts.specs.Held.{Sized}
-use Rattle.parts.specs.Copies.{Copy, copy_at, drops, first_dropped, going_down, copies, copied_from, ran, carried, Copied, Once_each, No_other_way, Rows_lie}
+use Rattle.parts.specs.Copies.{Copy, copy_at, drops, first_dropped, going_down, copies, copied_from, ran, carried, Once_each, No_other_way, Rows_lie}
 use Rattle.parts.proofs.Sifting.{stays_not}
 use Rattle.parts.proofs.Places.{squeezed_front}
 use Rattle.parts.proofs.Closing.{gone_count}

@@ -1,6 +1,7 @@
--- Sifting: a pass that drops, turn by turn. Places: what stands where after one. Clearing: rows cleared. Closing: what a drop is made of.
+-- Sifting: a pass that drops, turn by turn. Places: what stands where after one. Clearing: rows cleared. Closing, Squeezing: what a drop is made of.
 -- Slots: how often each stands. Keeping, Begun: what holds from a start on. Listing: the store as one list of records, and Dropping,
 -- Inserting, Putting: what is done to it.
+-- Past, Copying, Carrying, Copied: the copies of entries that a drop makes.
 pub mod Sifting
 pub mod Places
 pub mod Clearing

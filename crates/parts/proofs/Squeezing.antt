@@ -1,5 +1,5 @@
 -- A drop by its two steps: the pass with the entries behind closed up, then the rows cleared. Assumes nothing.
-use mathlib.Core.Path.{◌≡◌, refl, ap, ◌∙◌}
+use mathlib.Core.Path.{◌≡◌, refl, ap}
 use mathlib.Core.List.{List}
 use Prim.Native.Nat.{ℕ, ◌+◌, ◌-◌, ◌≤◌}
 use lib.ListN.{length}
@@ -31,8 +31,3 @@ module _ (m : Rows) (n t now : ℕ) (z : Sized m) (r : n ≤ length m.units) (h 
         → b.offsets ≡ m.offsets → b.units ≡ m.units → b.uses ≡ m.uses → c ≡ cleared_rows b (length m.units - n) (length m.units - n + (end m t - j))
         → os ≡ from_on (λ (o : ℕ). o - (end m t - j)) c.offsets (t + 1) → rows c.tags c.slots os c.free c.units c.uses ≡ dropped m n t now
     squeezed_dropped os a d e f g p q s = some_dropped m n t now z r h l i u v still j A b c passed_at os refl refl refl a d e f g p q s
-
--- the offsets are as they were until they are lowered
-pub offsets_kept : (m b c : Rows) (f k : ℕ) → b.offsets ≡ m.offsets → c ≡ cleared_rows b f k → c.offsets ≡ m.offsets
-unfolding cleared_rows
-offsets_kept m b c f k e g = ap (λ (x : Rows). x.offsets) g ∙ e

@@ -64,7 +64,7 @@ pub record Copied (m : Rows) (n table at_ms : ℕ) : Type 0 where
   pub leaves : (k : ℕ) → drops m table at_ms k ≡ true → copied_from (copies m n table at_ms) k ≡ 0
   pub before : (k : ℕ) → k < first_dropped m n table at_ms → copied_from (copies m n table at_ms) k ≡ 0
   pub behind : (k : ℕ) → n ≤ k → copied_from (copies m n table at_ms) k ≡ 0
-  -- none is taken from a place that an earlier copy wrote, so what is copied from a place is the entry that stood there
+  -- none is taken from a place that an earlier one wrote: what is copied from a place is the entry that stood there
   pub fresh : (a b : ℕ) → a < b → b < length (copies m n table at_ms) → (copy_at (copies m n table at_ms) a).to < (copy_at (copies m n table at_ms) b).from
   -- each goes to an earlier place
   pub down : (a : ℕ) → a < length (copies m n table at_ms) → (copy_at (copies m n table at_ms) a).to < (copy_at (copies m n table at_ms) a).from
@@ -76,7 +76,7 @@ pub record Copied (m : Rows) (n table at_ms : ℕ) : Type 0 where
   pub words : (x : ℕ) → ((k : ℕ) → k < length (gone m table at_ms) → x ≢ slot_of (get_or (gone m table at_ms) k 0) (length m.units)) → get_or (dropped m n table at_ms).units x [] ≡ get_or m.units x []
   pub floats : (x : ℕ) → ((k : ℕ) → k < length (gone m table at_ms) → x ≢ slot_of (get_or (gone m table at_ms) k 0) (length m.units)) → get_or (dropped m n table at_ms).uses x [] ≡ get_or m.uses x []
 
--- also where two entries name one slot
+-- for memory of any bits, also where two entries name one slot
 abbrev pub Once_each : Type 0
 Once_each = (m : Rows) (n table at_ms : ℕ) → Sized m → Whole m.offsets n → n ≤ length m.units → table < «PARTS» → Copied m n table at_ms
 

@@ -1,4 +1,5 @@
--- Parts: the unit records table by table. Held: their lent slices. Laws: what the calls leave of the records.
+-- Parts: the unit records table by table. Held: their lent slices. Indexed: those of the index, lent to a drop. Copies: the copies that a drop
+-- makes. Laws: what the calls leave of the records.
 pub mod Parts
 pub mod Held
 pub mod Indexed

@@ -1,5 +1,5 @@
 // The copies of entries of the index that a drop makes, each counted. The count takes no bytes, and counting has no code.
-ghost use Rattle.std.specs.Prelude.{◌≡◌, ℕ, ◌+◌, ◌-◌, ◌<◌, ◌≤◌, length, get_or, set};
+ghost use Rattle.std.specs.Prelude.{◌≡◌, ◌+◌, ◌<◌, ◌≤◌, length, get_or, set};
 ghost use Rattle.parts.specs.Held.{held, SameParts, SameRecords, Sized};
 ghost use Rattle.parts.specs.Indexed.{SameIndex, passed};
 ghost use Rattle.shifting.specs.Shifting.{closed};
@@ -7,7 +7,6 @@ ghost use Rattle.shifting.specs.Shifting.{closed};
 use super::{Parts, drops};
 use std::marker::Model;
 use std::sync::ledger::{Blank, Book, Ledger, Share};
-use store::UnitRow;
 
 // How many entries were copied. Only `tick` changes it.
 #[derive(Drop)]

@@ -2,11 +2,10 @@
 ghost use Rattle.std.specs.Prelude.{◌≡◌, ◌<◌, ◌≤◌, ◌+◌, ◌-◌, true, length};
 ghost use Rattle.std.specs.List.{SameFrom};
 ghost use Rattle.parts.specs.Copies as copying;
-ghost use Rattle.parts.specs.Held.{held, SameParts, SameRecords, Sized};
+ghost use Rattle.parts.specs.Held.{held, SameParts, Sized};
 ghost use Rattle.parts.specs.Indexed.{SameIndex};
 ghost use Rattle.parts.specs.Parts as parts;
 ghost use Rattle.shifting.specs.Offsets.{Whole, «PARTS»};
-ghost use Rattle.shifting.specs.Shifting as shifting;
 ghost use Rattle.store.specs.Store as store;
 
 use super::copies::{Copies, Index};
@@ -174,8 +173,8 @@ impl Parts<'_> {
         tracked - (to - j)
     }
 
-    // The stale records of a table's part are dropped; how many are left. Each copy of an entry counts. Where none is stale nothing is
-    // written.
+    // The stale records of a table's part are dropped; how many are left. Each copy of an entry counts, and each entry is copied at most
+    // once. Where none is stale nothing is written.
     pub fn drop_counted<L: Ledger>(
         &mut self,
         tracked: usize,
@@ -192,6 +191,7 @@ impl Parts<'_> {
         ensures whole_after { Whole self.new.offsets.now result }
         ensures tags_behind { SameFrom self.old.tags.now self.new.tags.now (length self.old.units.now) }
         ensures cost { copies.new ≡ copies.old + length (copying.copies (held self.old) tracked table at_ms) }
+        ensures once { copying.Copied (held self.old) tracked table at_ms }
         ensures slices { SameParts self.old self.new }
     {
         let from = self.offsets[table] as usize;

@@ -3,7 +3,7 @@ use Rattle.std.proofs.Common.{◌+◌, arith}
 use Rattle.shifting.proofs.Whole.{whole_below}
 use Rattle.parts.specs.Held.{held}
 use Rattle.parts.proofs.Behind.{behind_dropped}
-use Rattle.parts.proofs.Copied.{counted_none, counted_some}
+use Rattle.parts.proofs.Copied.{counted_none, counted_some, once_each}
 use Rattle.parts.proofs.Passing.{none_left, none_dropped}
 use Rattle.parts.proofs.Parts.drop_counted.Goals as goal
 
@@ -35,3 +35,9 @@ returns-clause-cost g c =
     counted_some (held c.args.self.now) c.args.tracked c.args.table c.args.at_ms c.first_stale-first.result c.args.copies.now c.drop_from.new.copies c.requires.sizes c.requires.whole c.requires.tracked_fits c.requires.table_in_bounds
     c.first_stale-first.ensures.lower_bound (omega arith) c.first_stale-first.ensures.none (c.first_stale-first.ensures.stale (omega arith))
     (omega (arith, c.drop_from.ensures.cost, c.drop_from.ensures.value))
+
+pub returns-then-first-to-clause-once : goal.returns-then-first-to-clause-once
+returns-then-first-to-clause-once g c = once_each (held c.args.self.now) c.args.tracked c.args.table c.args.at_ms c.requires.sizes c.requires.whole c.requires.tracked_fits c.requires.table_in_bounds
+
+pub returns-clause-once : goal.returns-clause-once
+returns-clause-once g c = once_each (held c.args.self.now) c.args.tracked c.args.table c.args.at_ms c.requires.sizes c.requires.whole c.requires.tracked_fits c.requires.table_in_bounds

@@ -1,10 +1,11 @@
 -- `parts::Parts::drop_from` meets its contract. Assumes nothing.
-use Rattle.std.proofs.Common.{ℕ, ◌+◌, ◌-◌, ◌≤◌, ◌∙◌, List, length, get_or, ap, arith}
+use Rattle.std.proofs.Common.{ℕ, ◌+◌, ◌-◌, ◌≤◌, ◌∙◌, List, length, get_or, refl, ap, arith}
 use Rattle.shifting.specs.Offsets.{from_on}
 use Rattle.shifting.proofs.Whole.{whole_below, whole_mono}
 use Rattle.parts.specs.Held.{held}
 use Rattle.parts.proofs.Behind.{whole_lowered}
-use Rattle.parts.proofs.Squeezing.{squeezed_left, squeezed_dropped, offsets_kept}
+use Rattle.parts.proofs.Passing.{offsets_stay}
+use Rattle.parts.proofs.Squeezing.{squeezed_left, squeezed_dropped}
 use Rattle.parts.proofs.Parts.drop_from.Goals as goal
 
 pub squeeze-j-requires-clause-to_le_n : goal.squeeze-j-requires-clause-to_le_n
@@ -15,7 +16,7 @@ clear-requires-clause-b_in_bounds g c = let b = whole_below _ _ c.requires.whole
 
 pub lower-requires-clause-d_le : goal.lower-requires-clause-d_le
 lower-requires-clause-d_le g c =
-    let e = offsets_kept (held c.args.self.now) (held c.squeeze-j.new.self) (held c.clear.new.self) _ _ c.squeeze-j.ensures.records.offsets c.clear.ensures.rows_after in
+    let e = offsets_stay (held c.args.self.now) (held c.args.self.now) (held c.squeeze-j.new.self) (held c.clear.new.self) _ _ refl c.squeeze-j.ensures.records.offsets c.clear.ensures.rows_after in
     λ k p q.
     let z : k ≤ 64 = omega (arith, ap (length {A = ℕ}) e) in
     omega (arith, ap (λ (l : List ℕ). get_or l k 0) e, whole_mono _ _ c.requires.whole (c.args.table + 1) k p z)
@@ -39,7 +40,7 @@ returns-clause-rows_after g c =
 
 pub returns-clause-whole_after : goal.returns-clause-whole_after
 returns-clause-whole_after g c =
-    let e = offsets_kept (held c.args.self.now) (held c.squeeze-j.new.self) (held c.clear.new.self) _ _ c.squeeze-j.ensures.records.offsets c.clear.ensures.rows_after in
+    let e = offsets_stay (held c.args.self.now) (held c.args.self.now) (held c.squeeze-j.new.self) (held c.clear.new.self) _ _ refl c.squeeze-j.ensures.records.offsets c.clear.ensures.rows_after in
     whole_lowered c.args.self.now.offsets.now c.lower.new.starts c.args.tracked c.args.table (get_or c.args.self.now.offsets.now (c.args.table + 1) 0 - c.squeeze-j.result) (omega arith) c.requires.whole c.requires.table_in_bounds (omega arith)
     (c.lower.ensures ∙ ap (λ (x : List ℕ). from_on (λ (o : ℕ). o - (get_or c.args.self.now.offsets.now (c.args.table + 1) 0 - c.squeeze-j.result)) x (c.args.table + 1)) e)
 
