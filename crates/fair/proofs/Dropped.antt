@@ -15,7 +15,7 @@ use Rattle.parts.specs.Parts.{Rows, begin, end, gone, dropped, left}
 use Rattle.parts.specs.Laws as laws
 use Rattle.parts.specs.Laws.{Sound, without}
 use Rattle.parts.proofs.Laws.{leave}
-use Rattle.parts.proofs.Keeping.{rise, inside, counts}
+use Rattle.parts.proofs.Keeping.{fits_of, rise, inside, counts}
 use Rattle.fair.specs.Store as model
 use Rattle.fair.proofs.Places as places
 use Rattle.fair.proofs.View.{Name, same, shares, R, listed, listed_length, listed_rows, row_of}
@@ -88,19 +88,19 @@ module _ (room : ℕ) where
     -- THE VISIT: the model's sweep of the part
     pub listed_dropped : listed room S N ≡ sweep (old_within at_ms b e) (listed room m n)
     listed_dropped =
-        let l : e ≤ length (listed room m n) = omega (arith, inside m n t at_ms s h, listed_length room m n) in
-        parted ∙ sym (places.swept_within Name same shares room (old at_ms) b e (listed room m n) (rise m n t at_ms s h) l)
+        let l : e ≤ length (listed room m n) = omega (arith, inside m n t at_ms (fits_of m n s) h, listed_length room m n) in
+        parted ∙ sym (places.swept_within Name same shares room (old at_ms) b e (listed room m n) (rise m n t at_ms (fits_of m n s) h) l)
 
     -- how many rows of the part stay
     stay : D + length (sweep (anywhere (old at_ms)) (part (listed room m n) b e)) ≡ e - b
     stay =
         let xs = listed room m n in
         let k = sweep (anywhere (old at_ms)) (part xs b e) in
-        let r = rise m n t at_ms s h in
-        let i = inside m n t at_ms s h in
+        let r = rise m n t at_ms (fits_of m n s) h in
+        let i = inside m n t at_ms (fits_of m n s) h in
         let f = length-take-le b xs (omega (arith, listed_length room m n)) in
         let a = sym (listed_length room S N) ∙ ap length parted ∙ length-append (take b xs ++ k) (drop e xs) in
-        omega (arith, counts m n t at_ms s h, listed_length room m n, a, length-append (take b xs) k, f, length-drop e xs)
+        omega (arith, counts m n t at_ms (fits_of m n s) h, listed_length room m n, a, length-append (take b xs) k, f, length-drop e xs)
 
     -- where the later parts begin then
     later : (u : ℕ) → t < u → u ≤ «PARTS» → get_or S.offsets u 0 ≡ get_or m.offsets u 0 - D
@@ -122,11 +122,11 @@ module _ (room : ℕ) where
         let d = length (gone m t at_ms) in
         let j = end m t - d in
         let y = stay m n t at_ms s l in
-        let r = rise m n t at_ms s l in
-        let q = rise m n (t + 1) at_ms s h in
+        let r = rise m n t at_ms (fits_of m n s) l in
+        let q = rise m n (t + 1) at_ms (fits_of m n s) h in
         let g : begin first (t + 1) ≡ j = later m n t at_ms s l (t + 1) (omega arith) (omega arith) in
         let f : end first (t + 1) ≡ j + (end m (t + 1) - end m t) = later m n t at_ms s l (t + 1 + 1) (omega arith) (omega arith) ∙ omega arith in
-        let i : end m (t + 1) ≤ length (listed room m n) = omega (arith, inside m n (t + 1) at_ms s h, listed_length room m n) in
+        let i : end m (t + 1) ≤ length (listed room m n) = omega (arith, inside m n (t + 1) at_ms (fits_of m n s) h, listed_length room m n) in
         let c : j ≡ begin m t + length (sweep (anywhere (old at_ms)) (part (listed room m n) (begin m t) (end m t))) = omega arith in
         listed_dropped first few (t + 1) at_ms (leave m n t at_ms s l).sound h
         ∙ ap (λ (x : ℕ). sweep (old_within at_ms x (end first (t + 1))) (listed room first few)) g

@@ -25,7 +25,7 @@ use Rattle.store.specs.Store.{with_tags}
 use Rattle.parts.specs.Parts.{Rows, begin, end, find, put, added, dropped, left, those, stays, squeezed}
 use Rattle.parts.specs.Laws.{Sound}
 use Rattle.parts.proofs.Closing.{tagged}
-use Rattle.parts.proofs.Keeping.{rise, inside, counts}
+use Rattle.parts.proofs.Keeping.{fits_of, rise, inside, counts}
 use Rattle.store_entry.specs.Entering.{entered, place, entry, back, put_back}
 use Rattle.store_entry.proofs.Own.{table_below}
 use Rattle.wants.specs.Wants.{Hist}
@@ -60,10 +60,10 @@ module _ (m : Rows) (n : ℕ) (s : Sound m n) where
       let y = s.sized in
       let yt = y.tags in
       let r = s.room in
-      let u = rise m n t at_ms s h in
-      let i = inside m n t at_ms s h in
+      let u = rise m n t at_ms (fits_of m n s) h in
+      let i = inside m n t at_ms (fits_of m n s) h in
       let k = those (stays m.slots m.units at_ms) (begin m t) (part m.tags (begin m t) (end m t)) in
-      let c = counts m n t at_ms s h in
+      let c = counts m n t at_ms (fits_of m n s) h in
       let g = tagged m.tags m.slots m.offsets m.free m.units m.uses n t at_ms u i r yt y.slots y.free in
       let p = part m.tags (end m t) n in
       let z : List ℕ = replicate (end m t - (begin m t + length k)) 0 in

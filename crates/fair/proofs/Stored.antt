@@ -37,7 +37,7 @@ module _ (room : ℕ) where
   -- any bits may stand in the rows at a start
   pub held_started : (m : Rows) → Sized m → length m.units ≡ room → Held (started m) 0
   unfolding started
-  held_started m z e = record { well = starts m z; room_is = e; wide = λ k h. absurd (omega arith) }
+  held_started m z e = record { well = (starts m z).well; room_is = e; wide = λ k h. absurd (omega arith) }
 
   pub held_put : (m : Rows) (n k : ℕ) (x : Use) → Held m n → k < n → Held (put m k x) n
   unfolding put

@@ -75,7 +75,7 @@ module _ (m : Rows) (n : ℕ) (ts : List ℕ) (w : Well m n) where
 steps_well : Steps (λ u. ⊤) Well
 steps_well = record {
   well = λ m n w. w;
-  starts = starts;
+  starts = λ m z. (starts m z).well;
   comes = λ m n u x w l o q. (comes m n (name_of u) x w.sound l (table_below u)).well w.homed;
   puts = λ m n k x w l. (puts m n k x w.sound l).well w.homed;
   leaves = λ m n t at_ms w l. (leave m n t at_ms w.sound l).well w.homed;
@@ -116,7 +116,7 @@ module _ (Q : Unit → Type 0) where
   steps_told : Steps Q Tells-all
   steps_told = record {
     well = λ m n w. w.well;
-    starts = λ m z. record { well = starts m z; all = λ k l. absurd (omega arith) };
+    starts = λ m z. record { well = (starts m z).well; all = λ k l. absurd (omega arith) };
     comes = λ m n u x w l o q.
         let a = comes m n (name_of u) x w.well.sound l (table_below u) in
         record { well = a.well w.well.homed; all = a.every Told (record { unit = u; own = o; holds = q; named = refl }) w.all };

@@ -13,7 +13,7 @@ use Rattle.shifting.specs.Offsets.{Whole}
 use Rattle.shifting.proofs.Down.{down_long}
 use Rattle.parts.specs.Parts.{Rows, put, started, slot_at, floats_of}
 use Rattle.parts.specs.Held.{Sized}
-use Rattle.parts.specs.Laws.{one_if, times, Once, Homed, Sound, Starts}
+use Rattle.parts.specs.Laws.{one_if, times, Once, Homed, Sound, Well, Starts}
 use Rattle.parts.proofs.Slots.{down_times}
 
 zeros : (k : ℕ) → k < 65 → get_or {A = ℕ} (replicate 65 0) k 0 ≡ 0
@@ -22,17 +22,23 @@ zeros k h = get_or-replicate {A = ℕ} 65 k 0 0 h
 module _ (m : Rows) (z : Sized m) where
   started_sized : Sized (started m)
   unfolding started
-  started_sized = record { some = z.some; most = z.most; tags = z.tags; slots = z.slots; free = down_long (length m.free) ∙ z.free; uses = z.uses }
+  started_sized =
+      let f = z.free in
+      record { some = z.some; most = z.most; tags = z.tags; slots = z.slots; free = omega (arith, down_long (length m.free)); uses = z.uses }
 
   none : (x : ℕ) → times x [] ≡ 0
   none x = unfold times in refl
 
-  started_once : Once (started m) 0
+  -- each slot is free, once
+  free_once : (x : ℕ) → times x (take (length (started m).units - 0) (started m).free) ≡ one_if (ltb x (length (started m).units))
   unfolding started
-  started_once x =
+  free_once x =
       let zf = z.free in
-      let e = ap (times x) (take_all (length m.units - 0) (down (length m.free)) (omega (arith, down_long (length m.free)))) ∙ down_times x (length m.free) ∙ ap (λ (k : ℕ). one_if (ltb x k)) zf in
-      omega (arith, e, none x)
+      ap (times x) (take_all (length m.units - 0) (down (length m.free)) (omega (arith, down_long (length m.free))))
+      ∙ down_times x (length m.free) ∙ ap (λ (k : ℕ). one_if (ltb x k)) zf
+
+  started_once : Once (started m) 0
+  started_once x = omega (arith, free_once x, none x)
 
   started_whole : Whole (started m).offsets 0
   unfolding started
@@ -46,11 +52,15 @@ module _ (m : Rows) (z : Sized m) where
   unfolding started
   started_homed t k l p q = absurd (omega (arith, zeros t (omega arith), zeros (t + 1) (omega arith)))
 
+  started_well : Well (started m) 0
+  started_well = record {
+    sound = record { sized = started_sized; room = omega arith; offsets = started_long; whole = started_whole; once = started_once };
+    homed = started_homed;
+  }
+
 pub starts : Starts
-starts m z = record {
-  sound = record { sized = started_sized m z; room = omega arith; offsets = started_long m z; whole = started_whole m z; once = started_once m z };
-  homed = started_homed m z;
-}
+unfolding started
+starts m z = record { well = started_well m z; tags = refl; slots = refl; units = refl; uses = refl }
 
 -- ---- a use put
 module _ (s : Rows) (n k : ℕ) (u : Use) (w : Sound s n) where

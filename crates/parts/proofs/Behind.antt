@@ -11,7 +11,7 @@ use Rattle.shifting.specs.Offsets.{from_on, Whole}
 use Rattle.shifting.proofs.Laying.{part_length, over_beyond}
 use Rattle.shifting.proofs.Places.{inserted_beyond}
 use Rattle.shifting.proofs.Whole.{whole_below}
-use Rattle.parts.specs.Parts.{Rows, begin, end, those, stays, squeezed, dropped}
+use Rattle.parts.specs.Parts.{Rows, begin, end, those, stays, squeezed, no_entry, dropped}
 use Rattle.parts.specs.declared.Parts.{Parts}
 use Rattle.parts.specs.Held.{held, SameParts, Sized}
 use Rattle.parts.proofs.Closing.{tagged}
@@ -41,9 +41,9 @@ module _ (m : Rows) (n t now : ℕ) (z : Sized m) (q : n ≤ length m.units) (w 
       let a = up in
       let b = within in
       let c = few in
-      let Z : List ℕ = replicate (end m t - (begin m t + length K)) 0 in
+      let Z : List ℕ = replicate (end m t - (begin m t + length K)) no_entry in
       over_beyond d m.tags (begin m t) ((K ++ part m.tags (end m t) n) ++ Z) k (omega (arith, z.tags))
-      (omega (arith, z.tags, length-append (K ++ part m.tags (end m t) n) Z, length-append K (part m.tags (end m t) n), part_length m.tags (end m t) n (omega (arith, z.tags)), length-replicate {A = ℕ} (end m t - (begin m t + length K)) 0))
+      (omega (arith, z.tags, length-append (K ++ part m.tags (end m t) n) Z, length-append K (part m.tags (end m t) n), part_length m.tags (end m t) n (omega (arith, z.tags)), length-replicate {A = ℕ} (end m t - (begin m t + length K)) no_entry))
 
 pub behind_dropped : (m r : Rows) (n t now : ℕ) → Sized m → n ≤ length m.units → Whole m.offsets n → t < 64 → r ≡ dropped m n t now → SameFrom m.tags r.tags (length m.units)
 behind_dropped m r n t now z q w h e k d g = ap (λ (x : Rows). get_or x.tags k d) e ∙ dropped_behind m n t now z q w h k d (omega arith)

@@ -10,19 +10,19 @@ use lib.Seq.{drop-drop, take_at, length-take-le}
 use Rattle.shifting.specs.Shifting.{over, part, closed}
 use Rattle.shifting.specs.Offsets.{from_on}
 use Rattle.shifting.proofs.Laying.{over_over, part_beyond}
-use Rattle.parts.specs.Parts.{those, squeezed, laid, cleared, stays, sifted, sifting, Sifting, Rows, rows, gone, dropped, no_words, no_floats}
+use Rattle.parts.specs.Parts.{those, squeezed, laid, cleared, stays, sifted, sifting, Sifting, Rows, rows, gone, dropped, no_entry, no_words, no_floats}
 use Rattle.parts.proofs.Sifting.{both, like}
 use Rattle.parts.proofs.Clearing.{rows_same}
 
 -- a pass and then closed up: squeezed
 pub laid_closed : (p : ℕ → Bool) (xs : List ℕ) (from to n j : ℕ) → from ≤ to → j ≡ from + length (those p from (part xs from to)) → j ≤ to → to ≤ n → n ≤ length xs
-    → closed (laid p xs from to) j to n 0 ≡ squeezed p xs from to n
+    → closed (laid p xs from to) j to n no_entry ≡ squeezed p xs from to n
 unfolding closed squeezed
 laid_closed p xs from to n j h e l m o =
-    ap (λ (k : ℕ). over (laid p xs from to) j (part (laid p xs from to) to n ++ replicate (to - k) 0)) e
-    ∙ ap (λ (r : List ℕ). over (laid p xs from to) j (r ++ replicate (to - (from + length (those p from (part xs from to)))) 0)) (part_beyond xs from (those p from (part xs from to)) to n (omega arith) (omega arith))
-    ∙ over_over xs from j (those p from (part xs from to)) (part xs to n ++ replicate (to - (from + length (those p from (part xs from to)))) 0) (omega arith) e
-    ∙ ap (over xs from) (sym (append_assoc (those p from (part xs from to)) (part xs to n) (replicate (to - (from + length (those p from (part xs from to)))) 0)))
+    ap (λ (k : ℕ). over (laid p xs from to) j (part (laid p xs from to) to n ++ replicate (to - k) no_entry)) e
+    ∙ ap (λ (r : List ℕ). over (laid p xs from to) j (r ++ replicate (to - (from + length (those p from (part xs from to)))) no_entry)) (part_beyond xs from (those p from (part xs from to)) to n (omega arith) (omega arith))
+    ∙ over_over xs from j (those p from (part xs from to)) (part xs to n ++ replicate (to - (from + length (those p from (part xs from to)))) no_entry) (omega arith) e
+    ∙ ap (over xs from) (sym (append_assoc (those p from (part xs from to)) (part xs to n) (replicate (to - (from + length (those p from (part xs from to)))) no_entry)))
 
 -- what stands is laid over itself
 pub over_self : (xs : List ℕ) (a b : ℕ) → a ≤ b → b ≤ length xs → over xs a (part xs a b) ≡ xs
@@ -35,11 +35,11 @@ over_self xs a b h l =
     ∙ ap (λ (r : List ℕ). take a xs ++ r) (take-append-drop (b - a) (drop a xs)) ∙ take-append-drop a xs
 
 -- nothing to close up
-pub closed_none : (xs : List ℕ) (j to n : ℕ) → j ≡ to → to ≤ n → n ≤ length xs → closed xs j to n 0 ≡ xs
+pub closed_none : (xs : List ℕ) (j to n : ℕ) → j ≡ to → to ≤ n → n ≤ length xs → closed xs j to n no_entry ≡ xs
 unfolding closed
 closed_none xs j to n e h l =
     let z : to - j ≡ 0 = omega arith in
-    ap (λ (k : ℕ). over xs j (part xs to n ++ replicate k 0)) z ∙ ap (over xs j) (append-nil (part xs to n)) ∙ ap (λ (k : ℕ). over xs k (part xs to n)) e ∙ over_self xs to n h l
+    ap (λ (k : ℕ). over xs j (part xs to n ++ replicate k no_entry)) z ∙ ap (over xs j) (append-nil (part xs to n)) ∙ ap (λ (k : ℕ). over xs k (part xs to n)) e ∙ over_self xs to n h l
 
 map_same : (f : ℕ → ℕ) → ((o : ℕ) → f o ≡ o) → (l : List ℕ) → map f l ≡ l
 map_same f h [] = refl
@@ -125,16 +125,16 @@ module _ (ts xs os fs : List ℕ) (us : List (List ℕ)) (vs : List (List Float)
     pub left_some : n - (to - j) ≡ n - length (gone S t now)
     left_some = ap (λ (d : ℕ). n - d) fell
 
-    tags_closed : closed ts' j to n 0 ≡ squeezed (stays xs us now) ts from to n
-    tags_closed = ap (λ (r : List ℕ). closed r j to n 0) tags_are ∙ laid_closed (stays xs us now) ts from to n j h (omega (arith, at_j, tagged)) (omega (arith, at_j, gone_count)) l (omega arith)
+    tags_closed : closed ts' j to n no_entry ≡ squeezed (stays xs us now) ts from to n
+    tags_closed = ap (λ (r : List ℕ). closed r j to n no_entry) tags_are ∙ laid_closed (stays xs us now) ts from to n j h (omega (arith, at_j, tagged)) (omega (arith, at_j, gone_count)) l (omega arith)
 
-    slots_closed : closed xs' j to n 0 ≡ squeezed (stays xs us now) xs from to n
-    slots_closed = ap (λ (r : List ℕ). closed r j to n 0) slots_are ∙ laid_closed (stays xs us now) xs from to n j h at_j (omega (arith, at_j, gone_count)) l (omega arith)
+    slots_closed : closed xs' j to n no_entry ≡ squeezed (stays xs us now) xs from to n
+    slots_closed = ap (λ (r : List ℕ). closed r j to n no_entry) slots_are ∙ laid_closed (stays xs us now) xs from to n j h at_j (omega (arith, at_j, gone_count)) l (omega arith)
 
     freed : part fs' (length us - n) (length us - n + (to - j)) ≡ gone S t now
     freed = ap (λ (r : List ℕ). part r (length us - n) (length us - n + (to - j))) free_are ∙ over_part fs (length us - n) (gone S t now) (length us - n + (to - j)) (omega arith) (omega (arith, fell))
 
-    pub drop_some : (ts'' xs'' os'' : List ℕ) (us'' : List (List ℕ)) (vs'' : List (List Float)) → ts'' ≡ closed ts' j to n 0 → xs'' ≡ closed xs' j to n 0
+    pub drop_some : (ts'' xs'' os'' : List ℕ) (us'' : List (List ℕ)) (vs'' : List (List Float)) → ts'' ≡ closed ts' j to n no_entry → xs'' ≡ closed xs' j to n no_entry
         → us'' ≡ cleared (no_words) us (part fs' (length us - n) (length us - n + (to - j))) → vs'' ≡ cleared (no_floats) vs (part fs' (length us - n) (length us - n + (to - j)))
         → os'' ≡ from_on (λ (x : ℕ). x - (to - j)) os (t + 1) → rows ts'' xs'' os'' fs' us'' vs'' ≡ dropped S n t now
     unfolding dropped

@@ -104,7 +104,10 @@ module _ (s : Rows) (n : ℕ) (name : Name) (u : Use) (w : Sound s n) (l : n < l
 
   -- the list after an insertion: one record more, at the end of its part
   pub added_listed : listed A (n + 1) ≡ take q U ++ (record_of name u ∷ drop q U)
-  added_listed = ext_get_or no_record (listed A (n + 1)) (take q U ++ (record_of name u ∷ drop q U)) (omega (arith, below, length_listed A (n + 1), length-append (take q U) (record_of name u ∷ drop q U), front, length-drop q U, length_listed s n)) (λ k m. each k (omega (arith, length_listed A (n + 1))))
+  added_listed =
+      ext_get_or no_record (listed A (n + 1)) (take q U ++ (record_of name u ∷ drop q U))
+      (omega (arith, below, length_listed A (n + 1), length-append (take q U) (record_of name u ∷ drop q U), front, length-drop q U, length_listed s n))
+      (λ k m. each k (omega (arith, length_listed A (n + 1))))
     where
       front : length (take q U) ≡ q
       front = length-take-le q U (omega (arith, below, length_listed s n))
@@ -120,7 +123,8 @@ module _ (s : Rows) (n : ℕ) (name : Name) (u : Use) (w : Sound s n) (l : n < l
               let z : k - q ≡ suc (k - 1 - q) = omega arith in
               let v : q + (k - 1 - q) ≡ k - 1 = omega arith in
               ap (record_at A) e ∙ last_at (k - 1) (omega arith) (omega arith)
-              ∙ sym (later no_record (take q U) (record_of name u ∷ drop q U) q k front x ∙ ap (λ (i : ℕ). get_or (record_of name u ∷ drop q U) i no_record) z ∙ get_or-drop q U (k - 1 - q) no_record ∙ ap (λ (i : ℕ). get_or U i no_record) v ∙ listed_at no_record s n (k - 1) (omega arith)))
+              ∙ sym (later no_record (take q U) (record_of name u ∷ drop q U) q k front x ∙ ap (λ (i : ℕ). get_or (record_of name u ∷ drop q U) i no_record) z
+              ∙ get_or-drop q U (k - 1 - q) no_record ∙ ap (λ (i : ℕ). get_or U i no_record) v ∙ listed_at no_record s n (k - 1) (omega arith)))
         ]
       ]
 

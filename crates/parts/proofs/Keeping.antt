@@ -16,9 +16,9 @@ use Rattle.shifting.specs.Offsets.{from_on, Whole}
 use Rattle.shifting.proofs.Laying.{part_length, length_over}
 use Rattle.shifting.proofs.Whole.{whole_mono, whole_below, length_from_on}
 use Rattle.shifting.proofs.Places.{from_before, from_behind, inserted_before, inserted_here, inserted_behind, length_inserted, part_at}
-use Rattle.parts.specs.Parts.{those, stays, squeezed, Rows, begin, end, top, gone, added, dropped, cleared, slot_of, words_of, floats_of, no_words, no_floats}
+use Rattle.parts.specs.Parts.{those, stays, no_entry, squeezed, Rows, begin, end, top, gone, added, dropped, left, cleared, slot_of, words_of, floats_of, no_words, no_floats}
 use Rattle.parts.specs.Held.{Sized}
-use Rattle.parts.specs.Laws.{one_if, Once, Homed, Sound, Cleared}
+use Rattle.parts.specs.Laws.{one_if, Once, Homed, Sound, Fits, Cleared}
 use Rattle.parts.proofs.Places.{squeezed_before, squeezed_within, squeezed_behind, squeezed_freed, nth, stood}
 use Rattle.parts.proofs.Closing.{tagged}
 use Rattle.parts.proofs.Clearing.{length_cleared, cleared_there}
@@ -58,29 +58,36 @@ module _ (table : ℕ → ℕ) (os ts : List ℕ) (n t : ℕ) (h : t < 64) (l : 
   within : b ≤ n
   within = whole_below os n w (t + 1) (omega arith)
 
-  pub inserted_home : (tag : ℕ) → n < length ts → table tag ≡ t → Home table (from_on (λ (o : ℕ). o + 1) os (t + 1)) (inserted ts b n tag)
-  inserted_home tag q e u k v x y = elim (dec_le t u) [
-    | no c ↦ (let g = from_before (λ (o : ℕ). o + 1) os (t + 1) u (omega arith) (omega arith) in
-        let i = from_before (λ (o : ℕ). o + 1) os (t + 1) (u + 1) (omega arith) (omega arith) in
-        let j = whole_mono os n w (u + 1) t (omega arith) (omega arith) in
-        ap table (inserted_before 0 ts b n tag within q k (omega (arith, up))) ∙ m u k v (omega arith) (omega arith))
-    | yes c ↦ elim (dec_le u t) [
-      | yes d ↦ (let z : u ≡ t = omega arith in
-          let g = from_before (λ (o : ℕ). o + 1) os (t + 1) u (omega arith) (omega arith) in
-          let i = ap (λ (r : ℕ). get_or (from_on (λ (o : ℕ). o + 1) os (t + 1)) (r + 1) 0) z ∙ from_behind (λ (o : ℕ). o + 1) os (t + 1) (t + 1) (omega arith) (omega arith) in
-          let j = ap (λ (r : ℕ). get_or os r 0) z in
-          elim (dec_le b k) [
-            | yes f ↦ (let r : k ≡ b = omega arith in ap (λ (o : ℕ). table (get_or (inserted ts b n tag) o 0)) r ∙ ap table (inserted_here 0 ts b n tag within q) ∙ e ∙ sym z)
-            | no f ↦ ap table (inserted_before 0 ts b n tag within q k (omega arith)) ∙ m t k h (omega arith) (omega arith) ∙ sym z
-          ])
-      | no d ↦ (let g = from_behind (λ (o : ℕ). o + 1) os (t + 1) u (omega arith) (omega arith) in
-          let i = from_behind (λ (o : ℕ). o + 1) os (t + 1) (u + 1) (omega arith) (omega arith) in
-          let j = whole_mono os n w (t + 1) u (omega arith) (omega arith) in
-          let o = whole_below os n w (u + 1) (omega arith) in
-          let r : k ≡ k - 1 + 1 = omega arith in
-          ap (λ (f : ℕ). table (get_or (inserted ts b n tag) f 0)) r ∙ ap table (inserted_behind 0 ts b n tag within q (k - 1) (omega arith) (omega arith)) ∙ m u (k - 1) v (omega arith) (omega arith))
-    ]
-  ]
+  -- the newcomer stands anywhere in its part
+  pub inserted_home : (p tag : ℕ) → a ≤ p → p ≤ b → n < length ts → table tag ≡ t → Home table (from_on (λ (o : ℕ). o + 1) os (t + 1)) (inserted ts p n tag)
+  inserted_home p tag lo hi q e u k v x y =
+      let below : p ≤ n = omega (arith, within) in
+      elim (dec_le t u) [
+        | no c ↦ (let g = from_before (λ (o : ℕ). o + 1) os (t + 1) u (omega arith) (omega arith) in
+            let i = from_before (λ (o : ℕ). o + 1) os (t + 1) (u + 1) (omega arith) (omega arith) in
+            let j = whole_mono os n w (u + 1) t (omega arith) (omega arith) in
+            ap table (inserted_before 0 ts p n tag below q k (omega (arith, up))) ∙ m u k v (omega arith) (omega arith))
+        | yes c ↦ elim (dec_le u t) [
+          | yes d ↦ (let z : u ≡ t = omega arith in
+              let g = from_before (λ (o : ℕ). o + 1) os (t + 1) u (omega arith) (omega arith) in
+              let i = ap (λ (r : ℕ). get_or (from_on (λ (o : ℕ). o + 1) os (t + 1)) (r + 1) 0) z ∙ from_behind (λ (o : ℕ). o + 1) os (t + 1) (t + 1) (omega arith) (omega arith) in
+              let j = ap (λ (r : ℕ). get_or os r 0) z in
+              elim (dec_le p k) [
+                | yes f ↦ elim (dec_le k p) [
+                  | yes o ↦ (let r : k ≡ p = omega arith in ap (λ (o : ℕ). table (get_or (inserted ts p n tag) o 0)) r ∙ ap table (inserted_here 0 ts p n tag below q) ∙ e ∙ sym z)
+                  | no o ↦ (let r : k ≡ k - 1 + 1 = omega arith in
+                      ap (λ (o : ℕ). table (get_or (inserted ts p n tag) o 0)) r ∙ ap table (inserted_behind 0 ts p n tag below q (k - 1) (omega arith) (omega (arith, within))) ∙ m t (k - 1) h (omega arith) (omega arith) ∙ sym z)
+                ]
+                | no f ↦ ap table (inserted_before 0 ts p n tag below q k (omega arith)) ∙ m t k h (omega arith) (omega arith) ∙ sym z
+              ])
+          | no d ↦ (let g = from_behind (λ (o : ℕ). o + 1) os (t + 1) u (omega arith) (omega arith) in
+              let i = from_behind (λ (o : ℕ). o + 1) os (t + 1) (u + 1) (omega arith) (omega arith) in
+              let j = whole_mono os n w (t + 1) u (omega arith) (omega arith) in
+              let o = whole_below os n w (u + 1) (omega arith) in
+              let r : k ≡ k - 1 + 1 = omega arith in
+              ap (λ (f : ℕ). table (get_or (inserted ts p n tag) f 0)) r ∙ ap table (inserted_behind 0 ts p n tag below q (k - 1) (omega arith) (omega arith)) ∙ m u (k - 1) v (omega arith) (omega arith))
+        ]
+      ]
 
   module _ (p : ℕ → Bool) (d : ℕ) (q : n ≤ length ts) (e : length (those p a (part ts a b)) + d ≡ b - a) where
     abbrev N : ℕ
@@ -121,15 +128,19 @@ module _ (table : ℕ → ℕ) (os ts : List ℕ) (n t : ℕ) (h : t < 64) (l : 
 pub length_squeezed : (p : ℕ → Bool) (xs : List ℕ) (a b n : ℕ) → a ≤ b → b ≤ n → n ≤ length xs → a + length (those p a (part xs a b)) ≤ b → length (squeezed p xs a b n) ≡ length xs
 unfolding squeezed
 length_squeezed p xs a b n h l m o =
-    length_over xs a ((those p a (part xs a b) ++ part xs b n) ++ replicate (b - (a + length (those p a (part xs a b)))) 0)
-    (omega (arith, length-append (those p a (part xs a b) ++ part xs b n) (replicate (b - (a + length (those p a (part xs a b)))) 0), length-append (those p a (part xs a b)) (part xs b n), part_length xs b n m, length-replicate {A = ℕ} (b - (a + length (those p a (part xs a b)))) 0))
+    length_over xs a ((those p a (part xs a b) ++ part xs b n) ++ replicate (b - (a + length (those p a (part xs a b)))) no_entry)
+    (omega (arith, length-append (those p a (part xs a b) ++ part xs b n) (replicate (b - (a + length (those p a (part xs a b)))) no_entry), length-append (those p a (part xs a b)) (part xs b n), part_length xs b n m, length-replicate {A = ℕ} (b - (a + length (those p a (part xs a b)))) no_entry))
 
 -- ---- an insertion
 module _ (s : Rows) (n : ℕ) (name : Name) (used : Use) (w : Sound s n) (l : n < length s.units) (h : table_of_tag name.tag < 64) where
   abbrev t : ℕ
   t = table_of_tag name.tag
 
-  under : end s t ≤ n
+  -- the place where it comes in
+  abbrev q : ℕ
+  q = end s t
+
+  under : q ≤ n
   under = whole_below s.offsets n w.whole (t + 1) (omega arith)
 
   added_sized : Sized (added s n name used)
@@ -144,8 +155,8 @@ module _ (s : Rows) (n : ℕ) (name : Name) (used : Use) (w : Sound s n) (l : n 
       record {
         some = omega arith;
         most = omega arith;
-        tags = omega (arith, length_inserted 0 s.tags (end s t) n name.tag under (omega arith));
-        slots = length_inserted 0 s.slots (end s t) n (top s n) under (omega arith) ∙ omega arith;
+        tags = omega (arith, length_inserted 0 s.tags q n name.tag under (omega arith));
+        slots = length_inserted 0 s.slots q n (top s n) under (omega arith) ∙ omega arith;
         free = z.free ∙ sym u;
         uses = length-set s.uses (slot_of (top s n) (length s.units)) (floats_of used) ∙ z.uses ∙ sym u;
       }
@@ -173,10 +184,13 @@ module _ (s : Rows) (n : ℕ) (name : Name) (used : Use) (w : Sound s n) (l : n 
 
   pub added_homed : Homed s → Homed (added s n name used)
   unfolding added
-  added_homed m = inserted_home table_of_tag s.offsets s.tags n t h w.offsets w.whole m name.tag (omega (arith, w.sized.tags)) refl
+  added_homed m = inserted_home table_of_tag s.offsets s.tags n t h w.offsets w.whole m q name.tag (omega (arith, w.whole.rises t h)) (omega (arith, w.whole.rises t h)) (omega (arith, w.sized.tags)) refl
+
+pub fits_of : (m : Rows) (n : ℕ) → Sound m n → Fits m n
+fits_of m n w = record { sized = w.sized; room = w.room; offsets = w.offsets; whole = w.whole }
 
 -- ---- a drop
-module _ (s : Rows) (n t now : ℕ) (w : Sound s n) (h : t < 64) where
+module _ (s : Rows) (n t now : ℕ) (w : Fits s n) (h : t < 64) where
   abbrev D : ℕ
   D = length (gone s t now)
 
@@ -220,12 +234,6 @@ module _ (s : Rows) (n t now : ℕ) (w : Sound s n) (h : t < 64) where
   unfolding dropped
   dropped_room = omega (arith, w.room, length_cleared no_words s.units (gone s t now))
 
-  dropped_once : Once (dropped s n t now) (n - D)
-  dropped_once x = dropped_standing s n t now w.sized w.room rise inside x ∙ w.once x ∙ same
-    where
-      same : one_if (ltb x (length s.units)) ≡ one_if (ltb x (length (dropped s n t now).units))
-      same = unfold dropped in ap (λ (k : ℕ). one_if (ltb x k)) (sym (length_cleared no_words s.units (gone s t now)))
-
   dropped_offsets : length (dropped s n t now).offsets ≡ 65
   unfolding dropped
   dropped_offsets = let z = w.offsets in length_from_on (λ (o : ℕ). o - D) s.offsets (t + 1) (omega arith) ∙ z
@@ -234,8 +242,8 @@ module _ (s : Rows) (n t now : ℕ) (w : Sound s n) (h : t < 64) where
   unfolding dropped
   dropped_whole = from_whole (λ (o : ℕ). o - D) (λ a b q. omega arith) s.offsets n t h w.offsets (omega (arith, counts, rise)) w.whole
 
-  pub dropped_sound : Sound (dropped s n t now) (n - D)
-  dropped_sound = record { sized = dropped_sized; room = dropped_room; offsets = dropped_offsets; whole = dropped_whole; once = dropped_once }
+  pub dropped_fits : Fits (dropped s n t now) (n - D)
+  dropped_fits = record { sized = dropped_sized; room = dropped_room; offsets = dropped_offsets; whole = dropped_whole }
 
   pub dropped_homed : Homed s → Homed (dropped s n t now)
   unfolding dropped
@@ -243,13 +251,13 @@ module _ (s : Rows) (n t now : ℕ) (w : Sound s n) (h : t < 64) where
 
   -- the places that are then free
   row_freed : (xs : List ℕ) → n ≤ length xs → length (those (stays s.slots s.units now) (begin s t) (part xs (begin s t) (end s t))) + D ≡ end s t - begin s t
-      → (k : ℕ) → n - D ≤ k → k < n → get_or (squeezed (stays s.slots s.units now) xs (begin s t) (end s t) n) k 0 ≡ 0
+      → (k : ℕ) → n - D ≤ k → k < n → get_or (squeezed (stays s.slots s.units now) xs (begin s t) (end s t) n) k 0 ≡ no_entry
   row_freed xs m e k u v =
       let r = rise in
       let i = inside in
       squeezed_freed (stays s.slots s.units now) xs (begin s t) (end s t) n r i m (omega arith) k (omega arith) v
 
-  pub dropped_freed : (k : ℕ) → n - D ≤ k → k < n → (get_or (dropped s n t now).tags k 0 ≡ 0) × (get_or (dropped s n t now).slots k 0 ≡ 0)
+  pub dropped_freed : (k : ℕ) → n - D ≤ k → k < n → (get_or (dropped s n t now).tags k 0 ≡ no_entry) × (get_or (dropped s n t now).slots k 0 ≡ no_entry)
   unfolding dropped
   dropped_freed k u v = (row_freed s.tags (omega (arith, w.room, w.sized.tags)) tag_counts k u v, row_freed s.slots (omega (arith, w.room, w.sized.slots)) counts k u v)
 
@@ -261,3 +269,16 @@ module _ (s : Rows) (n t now : ℕ) (w : Sound s n) (h : t < 64) where
         subst (λ (r : ℕ). get_or (cleared no_floats s.uses (gone s t now)) (slot_of (get_or (gone s t now) k 0) r) [] ≡ no_floats) e
             (cleared_there [] no_floats s.uses (gone s t now) k (omega (arith, w.sized.some)) l),
       )
+
+module _ (s : Rows) (n t now : ℕ) (w : Sound s n) (h : t < 64) where
+  abbrev g : Fits s n
+  g = fits_of s n w
+
+  dropped_once : Once (dropped s n t now) (left s n t now)
+  dropped_once x = dropped_standing s n t now w.sized w.room (rise s n t now g h) (inside s n t now g h) x ∙ w.once x ∙ same
+    where
+      same : one_if (ltb x (length s.units)) ≡ one_if (ltb x (length (dropped s n t now).units))
+      same = unfold dropped in ap (λ (k : ℕ). one_if (ltb x k)) (sym (length_cleared no_words s.units (gone s t now)))
+
+  pub dropped_sound : Sound (dropped s n t now) (left s n t now)
+  dropped_sound = let f = dropped_fits s n t now g h in record { sized = f.sized; room = f.room; offsets = f.offsets; whole = f.whole; once = dropped_once }

@@ -1,25 +1,23 @@
 -- What the calls leave of the records. Assumes nothing.
-use mathlib.Core.Path.{◌≡◌, refl, sym, ap, ◌∙◌}
-use mathlib.Core.Bool.{Bool, true, false, cond, not}
-use mathlib.Core.List.{List, [], ◌∷◌, ◌++◌}
-use Prim.Native.Nat.{ℕ, suc, ◌+◌, ◌-◌, ◌<◌}
+use mathlib.Core.Path.{◌≡◌, sym, ap, ◌∙◌}
+use mathlib.Core.Bool.{not}
+use mathlib.Core.List.{List, ◌++◌}
+use Prim.Native.Nat.{ℕ, ◌+◌, ◌<◌}
 use native.Mathlib.Omega.{arith}
-use native.Mathlib.Decide.{dec_lt}
-use lib.Dec.{ltb}
-use lib.ListN.{length, get_or, take, drop}
-use borrow.Author.Tests.{lt-ltb, le-ltb}
-use Rattle.store.specs.Store.{Record, stamp_at}
+use lib.ListN.{take, drop}
+use Rattle.store.specs.Store.{Record}
 use Rattle.shifting.specs.Shifting.{part}
 use Rattle.shifting.proofs.Laying.{part_length}
 use Rattle.shifting.proofs.Places.{part_at}
-use Rattle.parts.specs.Parts.{Rows, begin, end, those, stays, goes, is_stale, RETAIN_MS}
-use Rattle.parts.specs.Laws.{Sound, record_at, listed, stale, without, Comes, Leave, Move, Stays}
+use Rattle.parts.specs.Parts.{Rows, begin, end, those, stays}
+use Rattle.parts.specs.Laws.{Fits, listed, stale, without, Comes, Leave, Move, Stays}
 use Rattle.parts.proofs.Listing.{no_record, length_listed, listed_at}
-use Rattle.parts.proofs.Keeping.{added_sound, added_homed, dropped_sound, dropped_homed, dropped_freed, dropped_cleared, inside}
+use Rattle.parts.proofs.Keeping.{fits_of, added_sound, added_homed, dropped_sound, dropped_homed, dropped_freed, dropped_cleared, inside}
 use Rattle.parts.proofs.Begun.{put_sound, put_homed}
-use Rattle.parts.proofs.Dropping.{words_stay, floats_stay, dropped_listed, came, came_rises, came_tag, came_slot, dropped_every}
+use Rattle.parts.proofs.Dropping.{words_stay, floats_stay, dropped_listed, dropped_every, stood_at, stood_rises, stood_low, stood_tag, stood_slot}
 use Rattle.parts.proofs.Inserting.{added_listed, added_every}
 use Rattle.parts.proofs.Putting.{put_listed, put_every}
+use Rattle.parts.proofs.Stale.{stays_at, those_without}
 
 pub comes : Comes
 comes m n name u s l h = record {
@@ -37,32 +35,7 @@ puts m n k u s l = record {
   every = put_every m n k u s l;
 }
 
--- ---- the test of a place as one of a record
-old : (stamp at_ms : ℕ) → ltb RETAIN_MS (at_ms - stamp) ≡ ltb (stamp + 8000) at_ms
-old stamp at_ms = elim (dec_lt (stamp + 8000) at_ms) [
-  | yes h ↦ lt-ltb _ (at_ms - stamp) (omega arith) ∙ sym (lt-ltb (stamp + 8000) at_ms h)
-  | no h ↦ le-ltb _ (at_ms - stamp) (omega arith) ∙ sym (le-ltb (stamp + 8000) at_ms (omega arith))
-]
-
-stays_at : (m : Rows) (at_ms k : ℕ) → stays m.slots m.units at_ms k ≡ not (stale at_ms (record_at m k))
-unfolding stays goes is_stale stamp_at stale record_at
-stays_at m at_ms k = ap not (old _ at_ms)
-
--- those at whose places p holds, where p says that q does not hold of what stands there
-those_without : (d : Record) (p : ℕ → Bool) (q : Record → Bool) (i : ℕ) (xs : List Record) → ((k : ℕ) → k < length xs → p (i + k) ≡ not (q (get_or xs k d))) → those p i xs ≡ without q xs
-unfolding those without
-those_without d p q i [] h = refl
-those_without d p q i (x ∷ xs) h =
-    let z : i + 0 ≡ i = omega arith in
-    by (p i) (q x) (ap p (sym z) ∙ h 0 (omega arith)) (those_without d p q (suc i) xs (λ k l. let y : suc i + k ≡ i + suc k = omega arith in ap p y ∙ h (suc k) (omega arith)))
-  where
-    by : (b c : Bool) → b ≡ not c → those p (suc i) xs ≡ without q xs → cond b (x ∷ those p (suc i) xs) (those p (suc i) xs) ≡ cond c (without q xs) (x ∷ without q xs)
-    by true true e r = absurd (cc)
-    by true false e r = ap (λ (l : List Record). x ∷ l) r
-    by false true e r = r
-    by false false e r = absurd (cc)
-
-module _ (m : Rows) (n t at_ms : ℕ) (s : Sound m n) (h : t < 64) where
+module _ (m : Rows) (n t at_ms : ℕ) (s : Fits m n) (h : t < 64) where
   part_stays : those (stays m.slots m.units at_ms) (begin m t) (part (listed m n) (begin m t) (end m t)) ≡ without (stale at_ms) (part (listed m n) (begin m t) (end m t))
   part_stays = those_without no_record (stays m.slots m.units at_ms) (stale at_ms) (begin m t) (part (listed m n) (begin m t) (end m t)) (λ k l.
       let u = part_length (listed m n) (begin m t) (end m t) (omega (arith, length_listed m n, inside m n t at_ms s h)) in
@@ -72,20 +45,21 @@ module _ (m : Rows) (n t at_ms : ℕ) (s : Sound m n) (h : t < 64) where
 pub leave : Leave
 unfolding part
 leave m n t at_ms s h = record {
-  list = dropped_listed m n t at_ms s h ∙ ap (λ (l : List Record). (take (begin m t) (listed m n) ++ l) ++ drop (end m t) (listed m n)) (part_stays m n t at_ms s h);
+  list = dropped_listed m n t at_ms s h ∙ ap (λ (l : List Record). (take (begin m t) (listed m n) ++ l) ++ drop (end m t) (listed m n)) (part_stays m n t at_ms (fits_of m n s) h);
   sound = dropped_sound m n t at_ms s h;
-  well = λ home. record { sound = dropped_sound m n t at_ms s h; homed = dropped_homed m n t at_ms s h home };
+  well = λ home. record { sound = dropped_sound m n t at_ms s h; homed = dropped_homed m n t at_ms (fits_of m n s) h home };
   every = dropped_every m n t at_ms s h;
-  freed = dropped_freed m n t at_ms s h;
-  cleared = dropped_cleared m n t at_ms s h;
+  freed = dropped_freed m n t at_ms (fits_of m n s) h;
+  cleared = dropped_cleared m n t at_ms (fits_of m n s) h;
 }
 
 pub move : Move
 move m n t at_ms s h = record {
-  from = came m n t at_ms s h;
-  rises = came_rises m n t at_ms s h;
-  tag = came_tag m n t at_ms s h;
-  slot = came_slot m n t at_ms s h;
+  from = stood_at m t at_ms;
+  rises = stood_rises m n t at_ms (fits_of m n s) h;
+  within = stood_low m n t at_ms (fits_of m n s) h;
+  tag = stood_tag m n t at_ms (fits_of m n s) h;
+  slot = stood_slot m n t at_ms (fits_of m n s) h;
   units = words_stay m n t at_ms s h;
   uses = floats_stay m n t at_ms s h;
 }

@@ -9,7 +9,7 @@ use lib.Ieee.{Float}
 use Rattle.store.specs.Store.{None}
 use Rattle.shifting.specs.Shifting.{part, closed}
 use Rattle.shifting.specs.Offsets.{from_on}
-use Rattle.parts.specs.Parts.{Rows, rows, begin, end, goes, sifted, sifting, cleared, cleared_rows, dropped, left, no_words, no_floats}
+use Rattle.parts.specs.Parts.{Rows, rows, begin, end, goes, sifted, sifting, cleared, cleared_rows, dropped, left, no_entry, no_words, no_floats}
 use Rattle.parts.specs.Held.{Sized}
 use Rattle.parts.proofs.Sifting.{sifted_none, past}
 use Rattle.parts.proofs.Closing.{left_none, left_some, drop_none, drop_some}
@@ -39,7 +39,7 @@ module _ (m : Rows) (n t now : ℕ) (z : Sized m) (r : n ≤ length m.units) (h 
     some_left = left_some m.tags m.slots m.offsets m.free m.units m.uses n t now h l r z.tags z.slots z.free j a.tags a.slots a.free (e ∙ past_them)
 
     pub some_dropped : (os : List ℕ) → a.offsets ≡ m.offsets → a.units ≡ m.units → a.uses ≡ m.uses
-        → b.tags ≡ closed a.tags j (end m t) n 0 → b.slots ≡ closed a.slots j (end m t) n 0 → b.free ≡ a.free → b.offsets ≡ a.offsets → b.units ≡ a.units → b.uses ≡ a.uses
+        → b.tags ≡ closed a.tags j (end m t) n no_entry → b.slots ≡ closed a.slots j (end m t) n no_entry → b.free ≡ a.free → b.offsets ≡ a.offsets → b.units ≡ a.units → b.uses ≡ a.uses
         → c ≡ cleared_rows b f (f + (end m t - j)) → os ≡ from_on (λ (o : ℕ). o - (end m t - j)) c.offsets (t + 1)
         → rows c.tags c.slots os c.free c.units c.uses ≡ dropped m n t now
     unfolding cleared_rows

@@ -9,20 +9,20 @@ use lib.Seq.{take_at, length-take-le}
 use Rattle.shifting.specs.Shifting.{over, part}
 use Rattle.shifting.proofs.Laying.{part_length}
 use Rattle.shifting.proofs.Places.{later, over_before, over_within, part_at}
-use Rattle.parts.specs.Parts.{those, squeezed}
+use Rattle.parts.specs.Parts.{those, no_entry, squeezed}
 
 module _ (p : ℕ → Bool) (xs : List ℕ) (from to n : ℕ) (h : from ≤ to) (l : to ≤ n) (m : n ≤ length xs) where
   abbrev K : List ℕ
   K = those p from (part xs from to)
 
   abbrev Z : List ℕ
-  Z = replicate (to - (from + length K)) 0
+  Z = replicate (to - (from + length K)) no_entry
 
   whole_long : length (K ++ part xs to n) ≡ length K + (n - to)
   whole_long = length-append K (part xs to n) ∙ ap (λ (k : ℕ). length K + k) (part_length xs to n m)
 
   all_long : length ((K ++ part xs to n) ++ Z) ≡ length K + (n - to) + (to - (from + length K))
-  all_long = omega (arith, length-append (K ++ part xs to n) Z, whole_long, length-replicate {A = ℕ} (to - (from + length K)) 0)
+  all_long = omega (arith, length-append (K ++ part xs to n) Z, whole_long, length-replicate {A = ℕ} (to - (from + length K)) no_entry)
 
   pub squeezed_front : (k : ℕ) → k ≡ from + length K + (n - to) → take k (squeezed p xs from to n) ≡ take from xs ++ (K ++ part xs to n)
   unfolding squeezed over
@@ -54,12 +54,12 @@ module _ (p : ℕ → Bool) (xs : List ℕ) (from to n : ℕ) (h : from ≤ to) 
       ∙ later 0 K (part xs to n) (length K) (length K + k) refl (omega arith) ∙ ap (λ (i : ℕ). get_or (part xs to n) i 0) y ∙ part_at 0 xs to n k u
 
   -- the places that are then free
-  pub squeezed_freed : from + length K ≤ to → (k : ℕ) → from + length K + (n - to) ≤ k → k < n → get_or (squeezed p xs from to n) k 0 ≡ 0
+  pub squeezed_freed : from + length K ≤ to → (k : ℕ) → from + length K + (n - to) ≤ k → k < n → get_or (squeezed p xs from to n) k 0 ≡ no_entry
   unfolding squeezed
   squeezed_freed c k u v =
       over_within 0 xs from ((K ++ part xs to n) ++ Z) k (omega arith) (omega arith) (omega (arith, all_long))
       ∙ later 0 (K ++ part xs to n) Z (length K + (n - to)) (k - from) whole_long (omega arith)
-      ∙ get_or-replicate {A = ℕ} (to - (from + length K)) (k - from - (length K + (n - to))) 0 0 (omega arith)
+      ∙ get_or-replicate {A = ℕ} (to - (from + length K)) (k - from - (length K + (n - to))) no_entry 0 (omega arith)
 
 -- ---- those that pass: where the k-th of m places from i on stood
 unfoldable pub nth : (ℕ → Bool) → ℕ → ℕ → ℕ → ℕ

@@ -99,7 +99,11 @@ module _ (ts xs fs : List ℕ) (units : List (List ℕ)) (from f now : ℕ) wher
     sifted_next =
         let e : get_or (over xs from (K i)) i 0 ≡ get_or xs i 0 = over_beyond 0 xs from (K i) i (omega arith) (omega (arith, both i h (omega arith))) in
         let g : get_or (over ts from (T i)) i 0 ≡ get_or ts i 0 = over_beyond 0 ts from (T i) i (omega arith) (omega (arith, both i h (omega arith), like i h (omega arith) (omega arith))) in
-        ap (λ (b : Bool). cond b (sifting (from + length (K i)) (over ts from (T i)) (over xs from (K i)) (set (over fs f (D i)) (f + (i - (from + length (K i)))) (get_or (over xs from (K i)) i 0))) (sifting (from + length (K i) + 1) (set (over ts from (T i)) (from + length (K i)) (get_or (over ts from (T i)) i 0)) (set (over xs from (K i)) (from + length (K i)) (get_or (over xs from (K i)) i 0)) (over fs f (D i)))) (ap (is_stale units now) e)
+        let c = from + length (K i) in
+        let t = over ts from (T i) in
+        let x = over xs from (K i) in
+        let d = over fs f (D i) in
+        ap (λ (b : Bool). cond b (sifting c t x (set d (f + (i - c)) (get_or x i 0))) (sifting (c + 1) (set t c (get_or t i 0)) (set x c (get_or x i 0)) d)) (ap (is_stale units now) e)
         ∙ step ts xs fs (T i) (K i) (D i) (is_stale units now (get_or xs i 0)) from f (get_or ts i 0) (get_or (over ts from (T i)) i 0) (get_or xs i 0) (get_or (over xs from (K i)) i 0) i g e (like i h (omega arith) (omega arith)) (both i h (omega arith)) h l u m
         ∙ sym (tri _ _ _ _ _ _ _ _ (ap (λ (z : List ℕ). from + length z) kept) (ap (over ts from) tagged) (ap (over xs from) kept) (ap (over fs f) went))
       where

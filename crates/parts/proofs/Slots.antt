@@ -72,15 +72,15 @@ take_parts xs p n h = let z : p + (n - p) ≡ n = add-sub_of_le h in ap (λ (k :
 pub added_standing : (s : Rows) (n : ℕ) (name : Name) (used : Use) → Sized s → n < length s.units → end s (table_of_tag name.tag) ≤ n → (x : ℕ) → standing (added s n name used) (n + 1) x ≡ standing s n x
 unfolding added
 added_standing s n name used z l h x =
-    let t = table_of_tag name.tag in
+    let q = end s (table_of_tag name.tag) in
     let zs = z.slots in
     let zf = z.free in
     let f = length s.units - n - 1 in
     let e : length s.units - n ≡ suc f = omega arith in
     let u : length (added s n name used).units - (n + 1) ≡ f = omega (arith, length-set s.units (slot_of (top s n) (length s.units)) (words_of name used)) in
-    let a = ap (times x) (inserted_front 0 s.slots (end s t) n (top s n) h (omega arith)) ∙ times_join x (take (end s t) s.slots) (top s n ∷ part s.slots (end s t) n) in
-    let b = times_cons x (top s n) (part s.slots (end s t) n) in
-    let c = ap (times x) (take_parts s.slots (end s t) n h) ∙ times_join x (take (end s t) s.slots) (part s.slots (end s t) n) in
+    let a = ap (times x) (inserted_front 0 s.slots q n (top s n) h (omega arith)) ∙ times_join x (take q s.slots) (top s n ∷ part s.slots q n) in
+    let b = times_cons x (top s n) (part s.slots q n) in
+    let c = ap (times x) (take_parts s.slots q n h) ∙ times_join x (take q s.slots) (part s.slots q n) in
     let d = ap (λ (k : ℕ). times x (take k s.free)) e ∙ ap (times x) (take-suc s.free f 0 (omega arith)) ∙ times_join x (take f s.free) (top s n ∷ []) in
     let g = ap (λ (k : ℕ). times x (take k s.free)) u in
     omega (arith, a, b, c, d, g)

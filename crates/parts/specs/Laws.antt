@@ -39,6 +39,13 @@ pub record Sound (m : Rows) (n : ℕ) : Type 0 where
   pub whole : Whole m.offsets n
   pub once : Once m n
 
+-- the same, whatever the slots are that the entries name
+pub record Fits (m : Rows) (n : ℕ) : Type 0 where
+  pub sized : Sized m
+  pub room : n ≤ length m.units
+  pub offsets : length m.offsets ≡ «PARTS» + 1
+  pub whole : Whole m.offsets n
+
 -- each part has only entries of its own table
 abbrev pub Homed : Rows → Type 0
 Homed m = (table k : ℕ) → table < «PARTS» → begin m table ≤ k → k < end m table → table_of_tag (get_or m.tags k 0) ≡ table
@@ -61,8 +68,17 @@ abbrev pub Every : (Record → Type 0) → Rows → ℕ → Type 0
 Every P m n = (k : ℕ) → k < n → P (record_at m k)
 
 -- ---- a start
+pub record Begins (m : Rows) : Type 0 where
+  -- no record is there
+  pub well : Well (started m) 0
+  -- and none is written
+  pub tags : (started m).tags ≡ m.tags
+  pub slots : (started m).slots ≡ m.slots
+  pub units : (started m).units ≡ m.units
+  pub uses : (started m).uses ≡ m.uses
+
 abbrev pub Starts : Type 0
-Starts = (m : Rows) → Sized m → Well (started m) 0
+Starts = (m : Rows) → Sized m → Begins m
 
 -- ---- a record comes in
 abbrev pub record_of : Name → Use → Record
@@ -84,7 +100,7 @@ unfoldable pub stale : ℕ → Record → Bool
 stale at_ms r = ltb (get_or r.words 5 0 + 8000) at_ms
 
 -- those of which p does not hold, in their order
-unfoldable pub without : (Record → Bool) → List Record → List Record
+unfoldable pub without : {A : Type 0} → (A → Bool) → List A → List A
 without p [] = []
 without p (r ∷ rs) = cond (p r) (without p rs) (r ∷ without p rs)
 
@@ -116,6 +132,7 @@ pub record Moves (m : Rows) (n table at_ms : ℕ) : Type 0 where
   -- where the entry stood that stands at a place then
   pub from : ℕ → ℕ
   pub rises : (k : ℕ) → from k < from (k + 1)
+  pub within : (k : ℕ) → k < left m n table at_ms → from k < n
   pub tag : (k : ℕ) → k < left m n table at_ms → get_or (dropped m n table at_ms).tags k 0 ≡ get_or m.tags (from k) 0
   pub slot : (k : ℕ) → k < left m n table at_ms → get_or (dropped m n table at_ms).slots k 0 ≡ get_or m.slots (from k) 0
   pub units : (k : ℕ) → k < left m n table at_ms → get_or (dropped m n table at_ms).units (slot_at (dropped m n table at_ms) k) [] ≡ get_or m.units (slot_at (dropped m n table at_ms) k) []
@@ -123,6 +140,40 @@ pub record Moves (m : Rows) (n table at_ms : ℕ) : Type 0 where
 
 abbrev pub Move : Type 0
 Move = (m : Rows) (n table at_ms : ℕ) → Sound m n → table < «PARTS» → Moves m n table at_ms
+
+-- ---- what a drop leaves whatever the slots are that the entries name, also where two name the same one
+pub record Entry : Type 0 where
+  pub tag : ℕ
+  pub slot : ℕ
+
+unfoldable pub entry_at : Rows → ℕ → Entry
+entry_at m k = record { tag = get_or m.tags k 0; slot = get_or m.slots k 0 }
+
+-- the first n
+unfoldable pub entries : Rows → ℕ → List Entry
+entries m zero = []
+entries m (suc n) = entries m n ++ (entry_at m n ∷ [])
+
+-- the record that it names
+unfoldable pub of_entry : Rows → Entry → Record
+of_entry m e = record { tag = e.tag; words = get_or m.units (slot_of e.slot (length m.units)) []; floats = get_or m.uses (slot_of e.slot (length m.units)) [] }
+
+-- the entry at k is one of the part, and its record is stale
+abbrev pub Goes : Rows → ℕ → ℕ → ℕ → Type 0
+Goes m table at_ms k = (begin m table ≤ k) × (k < end m table) × (stale at_ms (record_at m k) ≡ true)
+
+pub record Clears (m : Rows) (n table at_ms : ℕ) : Type 0 where
+  -- of the part exactly the entries stay whose records were not stale, in their order, and the others are as they were
+  pub list : entries (dropped m n table at_ms) (left m n table at_ms)
+      ≡ (take (begin m table) (entries m n) ++ without (λ (e : Entry). stale at_ms (of_entry m e)) (take (end m table - begin m table) (drop (begin m table) (entries m n)))) ++ drop (end m table) (entries m n)
+  pub fits : Fits (dropped m n table at_ms) (left m n table at_ms)
+  -- the slots that stale records had are zero bits, and each other slot is as it was
+  pub cleared : (k : ℕ) → Goes m table at_ms k → Cleared (dropped m n table at_ms) (slot_at m k)
+  pub kept : (slot : ℕ) → slot < length m.units → ((k : ℕ) → Goes m table at_ms k → slot_at m k ≡ slot → ⊥)
+      → (get_or (dropped m n table at_ms).units slot [] ≡ get_or m.units slot []) × (get_or (dropped m n table at_ms).uses slot [] ≡ get_or m.uses slot [])
+
+abbrev pub Clear : Type 0
+Clear = (m : Rows) (n table at_ms : ℕ) → Fits m n → table < «PARTS» → Clears m n table at_ms
 
 -- ---- a use put into a record
 -- the record with it
@@ -147,3 +198,14 @@ pub record Finds (m : Rows) (n : ℕ) (name : Name) : Type 0 where
 
 abbrev pub Searches : Type 0
 Searches = (m : Rows) (n : ℕ) (name : Name) → Whole m.offsets n → table_of_tag name.tag < «PARTS» → Finds m n name
+
+-- two stores have the same part of a table: the same places, and at each the same tag and words
+pub record Agree (m k : Rows) (table : ℕ) : Type 0 where
+  pub begins : begin m table ≡ begin k table
+  pub ends : end m table ≡ end k table
+  pub tags : (i : ℕ) → begin m table ≤ i → i < end m table → get_or m.tags i 0 ≡ get_or k.tags i 0
+  pub words : (i : ℕ) → begin m table ≤ i → i < end m table → get_or m.units (slot_at m i) [] ≡ get_or k.units (slot_at k i) []
+
+-- a search reads its own part alone
+abbrev pub Alone : Type 0
+Alone = (m k : Rows) (name : Name) → Agree m k (table_of_tag name.tag) → find m name ≡ find k name

@@ -127,11 +127,15 @@ those p i (x ∷ xs) = cond (p i) (x ∷ those p (suc i) xs) (those p (suc i) xs
 unfoldable pub gone : Rows → ℕ → ℕ → List ℕ
 gone m table at_ms = those (goes m.slots m.units at_ms) (begin m table) (part m.slots (begin m table) (end m table))
 
+-- what stands at a place of the index that becomes free
+abbrev pub no_entry : ℕ
+no_entry = 0
+
 -- of the entries from `from` to `to` those stay at which p holds, those up to n come down behind them, and the places that are then free
--- are 0
+-- hold no entry
 unfoldable pub squeezed : (ℕ → Bool) → List ℕ → ℕ → ℕ → ℕ → List ℕ
 squeezed p xs from to n =
-    over xs from (those p from (part xs from to) ++ part xs to n ++ replicate (to - (from + length (those p from (part xs from to)))) 0)
+    over xs from (those p from (part xs from to) ++ part xs to n ++ replicate (to - (from + length (those p from (part xs from to)))) no_entry)
 
 -- the rows in the slots that the entries name become z, one after the other
 unfoldable pub cleared : {A : Type 0} → A → List A → List ℕ → List A

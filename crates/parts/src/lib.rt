@@ -10,8 +10,10 @@ ghost use Rattle.sender.specs.Sender.{table_of_tag};
 ghost use Rattle.shifting.specs.Offsets.{Whole, «PARTS»};
 ghost use Rattle.shifting.specs.Shifting.{down};
 
+mod copies;
 mod drops;
 
+pub use copies::Copies;
 pub use drops::RETAIN_MS;
 use flow::{DIMS, Use};
 use sender::{Name, Words};

@@ -16,14 +16,14 @@ use Rattle.shifting.proofs.Places.{part_at}
 use Rattle.shifting.proofs.Whole.{whole_below}
 use Rattle.store.specs.Store.{Record, stamp_at}
 use Rattle.parts.specs.Parts.{Rows, begin, end, those, stays, goes, is_stale, gone, dropped, use_of, RETAIN_MS}
-use Rattle.parts.specs.Laws.{record_at, listed, stale, without, part_of}
+use Rattle.parts.specs.Laws.{Fits, record_at, listed, stale, without, part_of}
 use Rattle.parts.proofs.Listing.{length_listed, listed_at}
 use Rattle.parts.proofs.Places.{nth, stood}
 use Rattle.parts.proofs.Sifting.{stays_not, those_both}
 use Rattle.scan_visit.specs.Walking.{walk_use, walk_overflow}
 use Rattle.wants.specs.Wants.{Hist}
 use Rattle.scan_visit.specs.Visiting.{walk, walk_part, visit_with}
-use Rattle.scan_visit.specs.Laws.{use_in, wants_of, Fits, Visits}
+use Rattle.scan_visit.specs.Laws.{use_in, wants_of, Visits}
 use Rattle.scan_visit.proofs.Staying.{use_is, use_kept, slot_within, begin_is, end_is}
 use Rattle.scan_visit.proofs.Turns.{walk_first}
 

@@ -1,13 +1,12 @@
 -- Whose wants a visit adds: overflow's first at table 0, once it has been judged, then those of the records of the part that are not stale, in their
 -- order. Statements only; proofs/Laws proves them. They refuse a definition that walks other records, or in another order, whatever the code does.
-use Rattle.std.specs.Prelude.{ℕ, ◌+◌, ◌<◌, ◌≤◌, ◌≡◌, cond, ◌==◌, List, [], ◌∷◌, length, get_or}
+use Rattle.std.specs.Prelude.{ℕ, ◌+◌, ◌<◌, ◌≡◌, cond, ◌==◌, List, [], ◌∷◌, get_or}
 use Rattle.flow.specs.Flow.{dims, is_fresh}
 use Rattle.flow.specs.declared.Use.{Use}
-use Rattle.shifting.specs.Offsets.{Whole, «PARTS»}
+use Rattle.shifting.specs.Offsets.{«PARTS»}
 use Rattle.store.specs.Store.{Record, part}
 use Rattle.parts.specs.Parts.{Rows, dropped}
-use Rattle.parts.specs.Held.{Sized}
-use Rattle.parts.specs.Laws.{stale, without, part_of}
+use Rattle.parts.specs.Laws.{stale, without, part_of, Fits}
 use Rattle.scan_visit.specs.Walking.{walk_use}
 use Rattle.wants.specs.Wants.{Hist}
 use Rattle.scan_visit.specs.Visiting.{visit_with}
@@ -25,13 +24,7 @@ unfoldable pub wants_of : ℕ → List Record → Hist → Hist
 wants_of t [] g = g
 wants_of t (r ∷ rs) g = wants_of t rs (walk_use (use_in r) t g)
 
--- a store of n records as the questions know it: its entries and rows hold any bits
-pub record Fits (m : Rows) (n : ℕ) : Type 0 where
-  pub sized : Sized m
-  pub room : n ≤ length m.units
-  pub offsets : length m.offsets ≡ «PARTS» + 1
-  pub whole : Whole m.offsets n
-
+-- the entries and the rows may hold any bits
 abbrev pub Visits : Type 0
 Visits =
     (m : Rows) (n table t : ℕ) (overflow : Use) (g : Hist) → Fits m n → table < «PARTS»
