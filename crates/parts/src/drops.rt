@@ -144,7 +144,7 @@ impl Parts<'_> {
     }
 
     // The stale records of a table's part are dropped, their slots free and zero bits; before `first` none is stale, and no entry is
-    // written. The records are cleared last, so that a slot that two entries name (memory may hold any bits) is judged alike for both.
+    // written. The records are cleared last: none is written while entries are judged by them.
     fn drop_from<L: Ledger>(
         &mut self,
         first: usize,
