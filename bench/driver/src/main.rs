@@ -168,6 +168,21 @@ fn reporting(turns: usize) -> [f64; 3] {
     best
 }
 
+/// The nanoseconds of a call of new rates; the Rust has none.
+fn changing(turns: usize, each: u64) -> f64 {
+    let mut here = tankpost::Shedder::new(1 << 17, SOURCES + 1);
+    assert_eq!(here.start([100, 100], [0, 0]), 0);
+    let mut best = f64::INFINITY;
+    for turn in 0..turns as u64 {
+        let began = used();
+        for i in 0..each {
+            assert_eq!(here.set_rates([100 + i % 64, 10_000 + i % 64], [0, 0], turn * each + i), 0);
+        }
+        best = best.min((used() - began) / each as f64);
+    }
+    best
+}
+
 fn main() {
     match std::env::args().nth(1).as_deref() {
         Some("churn") => return churn::table(),
@@ -184,6 +199,7 @@ fn main() {
             ns[0], ns[1], ns[1] / ns[0], admitted[0], admitted[1], senders + turns * each
         );
     }
+    println!("| new rates | | {:.0} | | |", changing(20, 100_000));
     let ns = reporting(200);
     println!("| report, 4,096 sources | {:.0} (struct), {:.0} (and its text) | {:.0} | {:.2}, {:.2} | |", ns[0], ns[1], ns[2], ns[2] / ns[0], ns[2] / ns[1]);
 }

@@ -319,7 +319,11 @@ pub fn refilled_all(buckets: [Bucket; DIMS], elapsed: u64) -> [Bucket; DIMS]
     per_dim(|d| buckets[d].refilled(elapsed))
 }
 
-pub fn turned_all(buckets: [Bucket; DIMS], rate: [u64; DIMS], ceiling: [u64; DIMS]) -> [Bucket; DIMS]
+pub fn turned_all(
+    buckets: [Bucket; DIMS],
+    rate: [u64; DIMS],
+    ceiling: [u64; DIMS],
+) -> [Bucket; DIMS]
     ensures { result ≡ flow.turned_all buckets rate ceiling }
 {
     per_dim(|d| buckets[d].turned(rate[d], ceiling[d]))

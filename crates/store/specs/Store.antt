@@ -1,5 +1,5 @@
 -- Rows of lent memory: where a record's parts lie, and places found. Definitions only.
-use Rattle.std.specs.Prelude.{ℕ, zero, suc, ◌+◌, ◌-◌, ◌%◌, ◌^◌, ◌<◌, ◌≤◌, ◌≡◌, Bool, false, cond, ◌&&◌, List, [], ◌∷◌, eqb, ltb, get_or, set, replicate, Float}
+use Rattle.std.specs.Prelude.{ℕ, zero, suc, ◌+◌, ◌-◌, ◌<◌, ◌≤◌, ◌≡◌, Bool, false, cond, List, [], eqb, ltb, get_or, set, replicate, Float}
 use Rattle.ieee.specs.Doubles.{nothing}
 use Rattle.flow.specs.Flow.{at, upto, dims}
 use Rattle.flow.specs.declared.Use.{Use}

@@ -1,4 +1,4 @@
-use Rattle.std.proofs.Common.{ap, ◌∙◌, Err, Ok}
+use Rattle.std.proofs.Common.{ap, ◌∙◌, Err}
 use Rattle.head.specs.declared.Refusal.{Refusal}
 use Rattle.wants.specs.Held.{wants_held}
 use Rattle.store.specs.Held.{lent_rows}

@@ -1,11 +1,10 @@
 -- `set_rates` meets its contract. Assumes nothing.
 use Rattle.std.specs.Prelude.{⊤}
-use Rattle.std.proofs.Common.{◌≡◌, ℕ, ◌-◌, List, ap, ◌∙◌, Ok, Err, Result, max, eqb}
-use Rattle.flow.specs.declared.Use.{Use}
+use Rattle.std.proofs.Common.{◌≡◌, ℕ, List, ap, ◌∙◌, Ok, Err, Result}
 use Rattle.head.specs.declared.Flow.{Flow}
 use Rattle.head.specs.declared.Refusal.{Refusal}
 use Rattle.head.specs.declared.Shedder.{Shedder}
-use Rattle.head.specs.Answers.{answer_number, refused}
+use Rattle.head.specs.Answers.{answer_number}
 use Rattle.head.specs.Headed.{headed}
 use Rattle.head.specs.Questions.{rates_asked}
 use Rattle.head.proofs.Numbers.{refused_is, answered_is, answered_none}
