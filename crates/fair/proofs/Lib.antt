@@ -34,9 +34,11 @@ pub mod Tied
 pub mod Outcome
 pub mod Judging
 pub mod Cutting
+pub mod Changing
 pub mod Begun
 pub mod Stepped
 pub mod Calls
+pub mod Changes
 pub mod Spans
 pub mod Steady
 pub mod Lasting
