@@ -1,6 +1,6 @@
 -- DEMAND 3, of every list of calls: each call that is not refused is the model's call, so the model's demand is the real one. Assumes nothing.
 use mathlib.Core.Path.{◌≡◌, refl, sym, ap, ◌∙◌, subst}
-use Prim.Native.Nat.{ℕ, suc, ◌+◌, ◌*◌, ◌≤◌, ◌<◌, max}
+use Prim.Native.Nat.{ℕ, suc, ◌+◌, ◌-◌, ◌*◌, ◌≤◌, ◌<◌, max}
 use native.Mathlib.Omega.{arith}
 use mathlib.Core.Bool.{Bool, true, false, cond, true≢false}
 use mathlib.Core.List.{List, [], ◌∷◌}
@@ -107,6 +107,10 @@ unfolding goal.answer_of
 over_of verdict.Admitted e = absurd (let z : ◌≡◌ {A = ℕ} 0 1 = cc in omega arith)
 over_of verdict.OverShare e = refl
 over_of verdict.RelayRate e = absurd (let z : ◌≡◌ {A = ℕ} 0 1 = cc in omega arith)
+
+-- a bound with a larger burst
+lifted : (a g y n : ℕ) {b m : ℕ} → a ≤ 1000 * parts * b + g + y + n → b ≤ m → a ≤ 1000 * parts * m + g + y + n
+lifted a g y n f h = omega arith
 
 module _ (room : ℕ) (rate ceiling : List ℕ) (rates : goal.all_rates rate ≡ true) where
   abbrev pub C : Type 0
@@ -356,7 +360,8 @@ module _ (room : ℕ) (rate ceiling : List ℕ) (rates : goal.all_rates rate ≡
     next_clock e x p = let s = stamp_same e.before e.call in let t = p.clock_is in omega arith
 
     carried_same : (d : ℕ) → d < dims → (e : Event) (x : List Event) → Fit e x → calls.carried d e x ≡ model.carried Name same shares room (by_dim rate) (by_dim ceiling) d (seen e x) (shown seen x)
-    carried_same d small e x p = rw (rate_same e.before (shown seen x) p.tie d small, next_clock e x p, p.clock_is)
+    carried_same d small e x p =
+        ap (λ (r : ℕ). r * (clock calls.stamp (e ∷ x) - clock calls.stamp x)) (rate_same e.before (shown seen x) p.tie d small) ∙ rw (next_clock e x p, p.clock_is)
 
     burst_same : (d : ℕ) → d < dims → (e : Event) (x : List Event) → Fit e x → calls.burst_after d e.before e.call ≡ model.burst_after Name same shares room (by_dim rate) (by_dim ceiling) d (seen e x) (shown seen x)
     burst_same d small e x p =
@@ -381,7 +386,9 @@ module _ (room : ℕ) (rate ceiling : List ℕ) (rates : goal.all_rates rate ≡
     relay : (h : List Call) (d : ℕ) → d < dims → (k : ℕ)
         → 1000 * parts * sum (calls.by (calls.admitted d)) (suc k) (es h)
         ≤ 1000 * parts * highest (calls.by (calls.burst_after d)) (suc k) (es h) + parts * sum (calls.carried d) k (es h) + 1000 * parts * sum (calls.by (calls.handed d)) (suc k) (es h) + 1000 * suc k
-    relay h d small k = omega (arith, from_first h d small k, oldest_highest (calls.by (calls.burst_after d)) k (es h))
+    relay h d small k =
+        lifted (1000 * parts * sum (calls.by (calls.admitted d)) (suc k) (es h)) (parts * sum (calls.carried d) k (es h)) (1000 * parts * sum (calls.by (calls.handed d)) (suc k) (es h)) (1000 * suc k)
+        (from_first h d small k) (oldest_highest (calls.by (calls.burst_after d)) k (es h))
 
     share : (r : Key) (h : List Call) (d : ℕ) → d < dims → (k : ℕ)
         → 1000 * parts * sum (calls.by (calls.admitted_on r d)) (suc k) (es h) * power 1074
