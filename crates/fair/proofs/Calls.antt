@@ -383,13 +383,6 @@ module _ (room : ℕ) (rate ceiling : List ℕ) (rates : goal.all_rates rate ≡
         )
         (the_claim.relay (shown seen (es h)) (lawful_all (es h) a) d small k)
 
-    relay : (h : List Call) (d : ℕ) → d < dims → (k : ℕ)
-        → 1000 * parts * sum (calls.by (calls.admitted d)) (suc k) (es h)
-        ≤ 1000 * parts * highest (calls.by (calls.burst_after d)) (suc k) (es h) + parts * sum (calls.carried d) k (es h) + 1000 * parts * sum (calls.by (calls.handed d)) (suc k) (es h) + 1000 * suc k
-    relay h d small k =
-        lifted (1000 * parts * sum (calls.by (calls.admitted d)) (suc k) (es h)) (parts * sum (calls.carried d) k (es h)) (1000 * parts * sum (calls.by (calls.handed d)) (suc k) (es h)) (1000 * suc k)
-        (from_first h d small k) (oldest_highest (calls.by (calls.burst_after d)) k (es h))
-
     share : (r : Key) (h : List Call) (d : ℕ) → d < dims → (k : ℕ)
         → 1000 * parts * sum (calls.by (calls.admitted_on r d)) (suc k) (es h) * power 1074
         ≤ parts * ((most_depth + calls.span (es h) k) * highest (calls.by (calls.fill_on r d)) (suc k) (es h)) + (1000 * parts * sum (calls.by (calls.handed_on r d)) (suc k) (es h) + 1000 * suc k) * power 1074
@@ -476,7 +469,14 @@ module _ (room : ℕ) (rate ceiling : List ℕ) (rates : goal.all_rates rate ≡
 
     pub demanded : calls.Demand first
     unfolding Modest
-    demanded = record { relay = relay; share = share; spared = λ h u cost t f w m a. spared h u cost t f w m a; fill = fill }
+    demanded = record {
+      relay = λ h d small k.
+          lifted (1000 * parts * sum (calls.by (calls.admitted d)) (suc k) (es h)) (parts * sum (calls.carried d) k (es h)) (1000 * parts * sum (calls.by (calls.handed d)) (suc k) (es h)) (1000 * suc k)
+          (from_first h d small k) (oldest_highest (calls.by (calls.burst_after d)) k (es h));
+      share = share;
+      spared = λ h u cost t f w m a. spared h u cost t f w m a;
+      fill = fill;
+    }
 
 -- THE THEOREM
 pub demand_three : Claim
