@@ -35,7 +35,6 @@ use Rattle.fair.specs.Demand.{verdict_here, is_admitted}
 use Rattle.fair.specs.Store as model
 use Rattle.fair.specs.Calls as calls
 use Rattle.fair.specs.Calls.{State, Call, Judge, Cut, Rates, Read, Event, Key, shared, own, Claim}
-use Rattle.fair.specs.Changes as changes
 use Rattle.fair.specs.Changes.{rate_of, ceiling_of, rate_after, ceiling_after}
 use Rattle.fair.proofs.Runs.{oldest_highest, shown, Along, sum_along, highest_along, oldest_along, clock_along, back_along, each_along, lowest_along, since_along, back_shown}
 use Rattle.fair.proofs.Store.{store_claim}

@@ -8,13 +8,11 @@ use mathlib.Core.List.{List, [], ◌∷◌}
 use lib.ListN.{length, get_or}
 use Rattle.flow.specs.Flow.{dims}
 use Rattle.fair.specs.Given as goal
-use Rattle.fair.specs.Runs.{sum, oldest, clock, back}
-use Rattle.fair.specs.Bounds.{parts}
+use Rattle.fair.specs.Runs.{sum, oldest, clock, back, Each}
 use Rattle.fair.specs.Tokens.{burst}
 use Rattle.fair.specs.Calls as calls
 use Rattle.fair.specs.Calls.{State, Call, Judge, Cut, Rates, Read, Event}
-use Rattle.fair.specs.Changes as changes
-use Rattle.fair.specs.Changes.{rate_of, ceiling_of, rate_after, ceiling_after, changed, Steady, Rated, Claim}
+use Rattle.fair.specs.Changes.{rate_of, ceiling_of, rate_after, ceiling_after, changed, Kept, Steady, Rated, Claim}
 use Rattle.fair.proofs.Runs.{Along, back-le, forward}
 use Rattle.fair.proofs.Tied.{Tied}
 use Rattle.fair.proofs.Begun.{left_tied}
@@ -49,6 +47,22 @@ still_ceiling start (suc n) [] e = refl
 still_ceiling start (suc n) (c ∷ es) e =
     let f : changed c.before c.call ≡ 0 = omega arith in
     same_ceiling c.before c.call (ceiling_of start es) f ∙ still_ceiling start n es (omega arith)
+
+none_changed : (n : ℕ) (es : List Event) → Each Kept es → sum (calls.by changed) n es ≡ 0
+unfolding sum Each
+none_changed zero es e = refl
+none_changed (suc n) [] e = refl
+none_changed (suc n) (c ∷ es) e = omega (arith, e.0, none_changed n es e.1)
+
+start_rate : (start : List ℕ) (es : List Event) → Each Kept es → rate_of start es ≡ start
+unfolding Each rate_of
+start_rate start [] e = refl
+start_rate start (c ∷ es) e = same_rate c.before c.call (rate_of start es) e.0 ∙ start_rate start es e.1
+
+start_ceiling : (start : List ℕ) (es : List Event) → Each Kept es → ceiling_of start es ≡ start
+unfolding Each ceiling_of
+start_ceiling start [] e = refl
+start_ceiling start (c ∷ es) e = same_ceiling c.before c.call (ceiling_of start es) e.0 ∙ start_ceiling start es e.1
 
 -- ---- the numbers: gaps at one rate
 no_gap : (r a : ℕ) → 0 ≡ r * (a - a)
@@ -111,17 +125,6 @@ module _ (room : ℕ) (rate ceiling : List ℕ) (rates : goal.all_rates rate ≡
   unfolding burst_at
   steady_run h d small k e = omega (arith, real.from_first room rate ceiling rates first b h d small k, gaps_flat d k (es h) (fits h) e, burst_flat d k (es h) (fits h) e)
 
-  -- ---- a list without a change
-  start_rate : (x : List Event) → ((n : ℕ) → sum (calls.by changed) n x ≡ 0) → rate_of rate x ≡ rate
-  unfolding sum rate_of
-  start_rate [] e = refl
-  start_rate (c ∷ x) e = same_rate c.before c.call (rate_of rate x) (let f = e 1 in omega arith) ∙ start_rate x (λ n. let f = e (suc n) in omega arith)
-
-  start_ceiling : (x : List Event) → ((n : ℕ) → sum (calls.by changed) n x ≡ 0) → ceiling_of ceiling x ≡ ceiling
-  unfolding sum ceiling_of
-  start_ceiling [] e = refl
-  start_ceiling (c ∷ x) e = same_ceiling c.before c.call (ceiling_of ceiling x) (let f = e 1 in omega arith) ∙ start_ceiling x (λ n. let f = e (suc n) in omega arith)
-
   pub rated : Rated rate ceiling first
   rated = record {
     rate_is = rate_is;
@@ -129,9 +132,10 @@ module _ (room : ℕ) (rate ceiling : List ℕ) (rates : goal.all_rates rate ≡
     from_first = real.from_first room rate ceiling rates first b;
     steady_run = steady_run;
     steady = λ h e d small k.
-        let r = sym (still_rate rate (suc k) (es h) (e (suc k))) ∙ start_rate (es h) e in
-        let z = sym (still_ceiling ceiling (suc k) (es h) (e (suc k))) ∙ start_ceiling (es h) e in
-        rw (r, z) at (steady_run h d small k (e (suc k)));
+        let f = none_changed (suc k) (es h) e in
+        let r = sym (still_rate rate (suc k) (es h) f) ∙ start_rate rate (es h) e in
+        let z = sym (still_ceiling ceiling (suc k) (es h) f) ∙ start_ceiling ceiling (es h) e in
+        rw (r, z) at (steady_run h d small k f);
   }
 
 -- THE THEOREM

@@ -19,7 +19,7 @@ use Rattle.fair.specs.Given as goal
 use Rattle.fair.specs.Given.{Memory, memory}
 use Rattle.fair.specs.Calls as calls
 use Rattle.fair.specs.Calls.{State, Call, Judge, Cut, Rates, Read, Lasts, Lasting}
-use Rattle.fair.specs.Changes.{rate_of, ceiling_of}
+use Rattle.fair.specs.Changes.{rate_of}
 use Rattle.fair.proofs.Tied.{Tied}
 use Rattle.fair.proofs.Spans.{bounded_span, after_span, on_span}
 use Rattle.fair.proofs.Steady as steady

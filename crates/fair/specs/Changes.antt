@@ -4,7 +4,7 @@ use Rattle.flow.specs.Flow.{dims}
 use Rattle.head.specs.declared.Shedder.{Shedder}
 use Rattle.fair.specs.Given as shed
 use Rattle.fair.specs.Given.{Memory}
-use Rattle.fair.specs.Runs.{sum, oldest, back}
+use Rattle.fair.specs.Runs.{sum, oldest, back, Each}
 use Rattle.fair.specs.Bounds.{parts}
 use Rattle.fair.specs.Tokens.{burst}
 use Rattle.fair.specs.Calls.{State, Call, Judge, Cut, Rates, Read, Event, events, state, by, admitted, handed, carried, burst_after, span, starts, left}
@@ -37,6 +37,10 @@ changed s (Cut u c cost) = 0
 changed s (Rates rate ceiling t) = 1
 changed s (Read q) = 0
 
+-- no change
+abbrev pub Kept : Event → Type 0
+Kept e = changed e.before e.call ≡ 0
+
 -- admitted cost of the run of suc k calls ≤ burst + rate * T + handed back + n / 256, at one rate and ceiling
 abbrev pub Steady : List Event → ℕ → List ℕ → List ℕ → ℕ → Type 0
 Steady es d rate ceiling k =
@@ -54,8 +58,8 @@ pub record Rated (rate ceiling : List ℕ) (first : State) : Type 0 where
   -- a run with no change in it, at the rates in force before it
   pub steady_run : (h : List Call) (d : ℕ) → d < dims → (k : ℕ) → sum (by changed) (suc k) (events first h) ≡ 0
       → Steady (events first h) d (rate_of rate (back (suc k) (events first h))) (ceiling_of ceiling (back (suc k) (events first h))) k
-  -- no change in the whole list: every run, at the start's rates
-  pub steady : (h : List Call) → ((n : ℕ) → sum (by changed) n (events first h) ≡ 0) → (d : ℕ) → d < dims → (k : ℕ) → Steady (events first h) d rate ceiling k
+  -- with no change in the whole list every run, at the start's rates
+  pub steady : (h : List Call) → Each Kept (events first h) → (d : ℕ) → d < dims → (k : ℕ) → Steady (events first h) d rate ceiling k
 
 -- from what a start at bounded rates left
 abbrev pub Claim : Type 0

@@ -2,7 +2,7 @@
 -- WHAT THE STORE MUST SUPPLY to carry this to the real shedder, for each record R: for each call that is not refused, its deed as R sees it, such that
 --   1. `view R` of the state after the call is `does` of `view R` of the state before it, at the clock and the deed (R's use where R is in the store, absent where not; the buckets);
 --   2. the call's answer is `verdict` of its batch, with its want, its reserve test and, for a batch of another record, its credit test, as demand 2's definition gives them;
---   3. the deed is `Lawful`: questions 5 and 6, and that a fill, min (level, rate), is a finite double from 0 to 2 ^ 40 (the level is never a NaN, and at least 1);
+--   3. the deed is `Lawful`: questions 1, 5, 6 and 10, and that a fill, min (level, rate), is a finite double from 0 to 2 ^ 40 (the level is never a NaN, and at least 1);
 --   4. a scan drops R only where its stamp is more than 8000 before the clock (the scan's stamp is at most the clock), and never in a call that judges R.
 use Rattle.std.specs.Prelude.{ℕ, suc, ◌+◌, ◌-◌, ◌*◌, ◌^◌, ◌≤◌, ◌<◌, max, ◌≡◌, Bool, true, false, cond, List, [], ◌∷◌, T, ltb, replicate, Float}
 use Rattle.ieee.specs.Doubles.{◌⊴◌, one, nothing, whole}
