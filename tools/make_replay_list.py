@@ -5,7 +5,8 @@ ORACLE is the Rust oracle's shedtrial, GENS the folder that holds gens.py. The f
 first start only, lines that are refused strewn in, and a P at the end. Each of the others has a run where one of demand 3's
 claims is within 1 % of its bound: bounds and costs are computed from what the oracle says that its judgements met (--met),
 the 1 % is asserted here, and the figures stand in a line before the W line. What the program must say of a run is summed up
-from what the oracle printed for the same lines.
+from what the oracle printed for the same lines. The oracle has no line for new rates: what must be said of the last list is
+counted here, in whole tokens.
 """
 import random
 import struct
@@ -311,6 +312,69 @@ def spared_costs():
     return low, past
 
 
+# ---- new rates
+STAMPS = 1 << 53
+
+
+def turned_list():
+    """All that the rates carry is taken at once, from senders that are new; of two changes that are refused nothing stays."""
+    names = (sender(k) for k in range(40, 60))
+
+    def took(cost, stamp):
+        return judge(next(names), (cost, 0), stamp)
+
+    def rates(receptions, most, stamp):
+        return b'N %d 1000000 %d 7 %d' % (receptions, most, stamp)
+
+    return [
+        b'R 8000 1000000 0 0', took(8000, 1000), took(4000, 1500), rates(1000, 0, 1625), took(1000, 1625), took(500, 2125),
+        rates(4000, 0, 3125), took(1000, 3125), took(1, 3125), took(4000, 4125), rates(0, 0, 5000), rates(1, 0, STAMPS),
+        rates(2000, 5000, 4125), took(2000, 5125), b'P',
+    ]
+
+
+def turned_said(lines, key):
+    """What must be said of the whole list, and the part of the first bound that is admitted."""
+    def burst():
+        return max(rate, min(most, gens.MOST), 1)
+
+    level, _, most, _ = [int(x) for x in lines[0].split(b' ')[1:]]
+    rate = level
+    tokens = burst()
+    largest = clock = carried = 0
+    admitted, over = {}, []
+    taken = READINGS
+    for fields in (line.split(b' ') for line in lines[1:-1]):
+        to, stamp = int(fields[{b'J': 2, b'N': 1}[fields[0]]]), int(fields[-1])
+        if fields[0] == b'N' and (not 1 <= to <= gens.MOST or stamp >= STAMPS):
+            continue
+        gap = max(stamp, clock) - clock
+        assert gap * rate % 1000 == 0
+        tokens = min(tokens + gap * rate // 1000, burst())
+        carried += gap * rate // 1000 if taken > READINGS else 0
+        clock += gap
+        taken += 1
+        if fields[0] == b'N':
+            rate, most = to, int(fields[3])
+            tokens = min(tokens, burst())
+        largest = max(largest, burst())
+        if fields[0] == b'N':
+            continue
+        # each is within the level, which no scan has found yet, and within the credit of a new record
+        assert to <= 2 * level and to <= 4 * min(level, rate) and fields[1] not in admitted
+        admitted[fields[1]] = to if to <= tokens else 0
+        over += [] if to <= tokens else [(fields[1], to)]
+        tokens -= admitted[fields[1]]
+    report = b'rate %d 1000000\nceiling %d 7\nactive %d\n' % (rate, most, len(admitted))
+    report += b'receiver-ceiling 0 0\nover-share 0 0\nrelay-rate %d %d\n' % (len(over), sum(cost for _, cost in over))
+    report += b''.join(b'source %s 0 0 1\n' % label for label, _ in over)
+    said = b'W %s 0 %d\nadmitted %d 0\non-watched %d 0\nhanded-back 0 0\n' % (key, CALLS, sum(admitted.values()), admitted[key])
+    said += b'taken %d\nover-share no\npage\n%sstate\n%s' % (taken, report, report)
+    part = Fraction(sum(admitted.values())) / (largest + carried + Fraction(taken, 256))
+    assert 1 - NEAR <= part <= 1
+    return said, part
+
+
 # ---- the files
 stdin, stdout = [], []
 
@@ -353,5 +417,9 @@ for cost, word in ((within, b'ok'), (past, b'over-share')):
     calls = add(lines, [(key, 32, len(lines) - 1)], lambda calls: 'want %.5f, cost tried over the third condition: %.7f' % (want(calls[-1]), tried_part(calls)))
     assert calls[-1].answer == word
     assert 1 - NEAR <= tried_part(calls) <= 1 if word == b'ok' else 1 < tried_part(calls) <= 1 + NEAR
+lines = turned_list()
+said, part = turned_said(lines, sender(46))
+stdin += lines + [b'# admitted over the first bound, the rates changing: %.5f' % part, b'W %s 0 %d' % (sender(46), CALLS)]
+stdout.append(said)
 open(folder + '/stdin', 'wb').write(b'\n'.join(stdin) + b'\n')
 open(folder + '/stdout', 'wb').write(b''.join(stdout))

@@ -86,6 +86,19 @@ impl List {
         Ok(())
     }
 
+    // `N receptions bytes receptions bytes stamp`: new rates, a new ceiling and the stamp. The trial has no such line.
+    fn change(&mut self, line: &[u8]) -> io::Result<()> {
+        let Some(fields) = numbers::<5>(rest(line)) else {
+            return Ok(());
+        };
+        let [receptions, bytes, most_receptions, most_bytes, stamp] = fields;
+        self.push(Call::Rates {
+            rate: [receptions, bytes],
+            ceiling: [most_receptions, most_bytes],
+            stamp,
+        })
+    }
+
     // `W label from to`: the list is run with that record watched, the run being the calls from `from` to before `to`. The line
     // is said again, so that what it gives stands below it. Any other line that has no form is no call.
     fn watch(&self, rt: &impl Print, line: &[u8]) -> io::Result<()> {
@@ -124,6 +137,7 @@ impl List {
             Some(Line::Judge(judge)) => self.judge(judge),
             Some(Line::Cut(cut)) => self.cut(cut),
             Some(Line::Report) => self.read_all(),
+            None if first(line) == b"N".as_slice() => self.change(line),
             None => self.watch(rt, line),
         }
     }

@@ -30,6 +30,7 @@ use Rattle.std.proofs.Common.{Ok}
 use Rattle.head.specs.Answers.{refused}
 use Rattle.fair.specs.Given as goal
 use Rattle.fair.specs.Given.{Memory}
+use Rattle.fair.specs.Tokens.{pot_of}
 use Rattle.fair.specs.Store as model
 use Rattle.fair.specs.Calls as calls
 use Rattle.ieee.proofs.Extremes.{least-is}
@@ -98,14 +99,15 @@ by_dim xs d = get_or xs d 0
 
 -- ---- what a start leaves
 opening_tied : (rate ceiling : List ℕ) (counted : ℕ) (m : Rows) → Sized m → goal.all_rates rate ≡ true
-    → Tied (length m.units) rate (goal.opening rate ceiling (length m.units) counted) (started m) (model.store Name same shares (length m.units) (by_dim rate) (by_dim ceiling) []) 0
+    → Tied (length m.units) rate ceiling (goal.opening rate ceiling (length m.units) counted) (started m) (model.store Name same shares (length m.units) (by_dim rate) (by_dim ceiling) []) 0
 unfolding goal.opening model.store listed
 opening_tied rate ceiling counted m z rates = record {
   rate_is = refl;
+  ceiling_is = refl;
   room_is = refl;
   clock_is = refl;
   long = buckets_long rate ceiling;
-  bucket_is = buckets_are rate ceiling;
+  pot_is = λ d small. ap (λ (x : Bucket). pot_of x (get_or rate d 0) (get_or ceiling d 0)) (buckets_are rate ceiling d small);
   rows_is = refl;
   overflow_is = refl;
   whole = entry.new_whole 0;
@@ -190,8 +192,8 @@ module _ (was : Shedder) (m : Memory) (rate ceiling : List ℕ) (e : (calls.star
   left_is = ap (λ (c : Bool). cond c (goal.start_ends (Ok tt) opens (started m.rows) wants.cleared) (goal.start_ends (refused asked) was m.rows m.hist)) asked_yes
 
   pub left_tied : goal.all_rates rate ≡ true
-      → Tied (length m.rows.units) rate (calls.left was m rate ceiling).head (calls.left was m rate ceiling).memory.rows
+      → Tied (length m.rows.units) rate ceiling (calls.left was m rate ceiling).head (calls.left was m rate ceiling).memory.rows
       (model.store Name same shares (length m.rows.units) (by_dim rate) (by_dim ceiling) []) 0
   left_tied rates =
-      subst (λ (s : goal.Beginning). Tied (length m.rows.units) rate s.head s.rows (model.store Name same shares (length m.rows.units) (by_dim rate) (by_dim ceiling) []) 0) (sym left_is)
+      subst (λ (s : goal.Beginning). Tied (length m.rows.units) rate ceiling s.head s.rows (model.store Name same shares (length m.rows.units) (by_dim rate) (by_dim ceiling) []) 0) (sym left_is)
       (opening_tied rate ceiling (length m.counted) m.rows (sized m.rows m.counted start_sizes) rates)

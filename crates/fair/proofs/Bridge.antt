@@ -18,7 +18,7 @@ use Rattle.flow.proofs.Parts.{upto_length, each_at, buckets_at, all_same}
 use Rattle.fair.specs.Tokens.{paid}
 use Rattle.fair.specs.Demand.{Batch, Here, present, State, found, priced, filled, verdict_here, is_admitted, settled, does}
 
-module _ (s : State) (bs : List Bucket) (clk t : ℕ) (cost : ℕ → ℕ) (fill level : List Float) (rank : Float) (long : length bs ≡ dims) (same : (d : ℕ) → d < dims → bucket_at bs d ≡ s.bucket d) where
+module _ (s : State) (bs : List Bucket) (clk t : ℕ) (cost : ℕ → ℕ) (fill level : List Float) (rank : Float) (long : length bs ≡ dims) (same : (d : ℕ) → d < dims → bucket_at bs d ≡ (s.pot d).bucket) where
   abbrev now : ℕ
   now = max t clk
 
@@ -87,5 +87,5 @@ module _ (s : State) (bs : List Bucket) (clk t : ℕ) (cost : ℕ → ℕ) (fill
       buckets_at (λ (d : ℕ). flow.spent (bucket_at full d) (at (priced cost) d)) full d small full_long ∙ ap (λ (b : Bucket). flow.spent b (at (priced cost) d)) (full_at d small) ∙ ap (flow.spent (filled s clk batch d)) (priced_at d small)
   bucket_of false d small = full_at d small
 
-  pub bucket_same : (d : ℕ) → d < dims → bucket_at outcome.buckets d ≡ (does s clk (Here batch fill)).bucket d
+  pub bucket_same : (d : ℕ) → d < dims → bucket_at outcome.buckets d ≡ ((does s clk (Here batch fill)).pot d).bucket
   bucket_same d small = bucket_of (is_admitted decision) d small ∙ ap (λ (v : Verdict). paid (is_admitted v) (filled s clk batch d) (cost d)) decision_same

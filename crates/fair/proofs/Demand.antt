@@ -9,7 +9,6 @@ use lib.Ieee as Ieee
 use lib.Ieee.{Float, nan}
 use Rattle.ieee.specs.Doubles.{one, nothing, whole}
 use Rattle.ieee.specs.Units.{power}
-use Rattle.flow.specs.declared.Bucket.{Bucket}
 use Rattle.flow.specs.declared.Use.{Use}
 use Rattle.verdict.specs.declared.Verdict.{Verdict}
 use Rattle.verdict.specs.declared.Verdict.TheVariants.{Admitted, OverShare, RelayRate}
@@ -17,13 +16,14 @@ use Rattle.flow.specs.Flow as flow
 use Rattle.verdict.specs.Verdict as verdicts
 use Rattle.flow.specs.Flow.{dims, at}
 use Rattle.flow.proofs.Parts.{upto_length, each_at, all-at, all_of}
-use Rattle.fair.specs.Runs.{sum, highest, lowest, clock, back, Each}
+use Rattle.fair.specs.Runs.{sum, highest, oldest, lowest, clock, back, Each}
 use Rattle.fair.specs.Bounds.{stale_after, most_depth, least_depth, parts}
 use Rattle.fair.specs.Tokens as tokens
+use Rattle.fair.specs.Tokens.{Pot}
 use Rattle.fair.specs.Credit as credit
 use Rattle.fair.specs.Demand as demand
-use Rattle.fair.specs.Demand.{Batch, Deed, Here, There, Cut, CutThere, Idle, stamp, Lawful, Kept, absent, present, State, priced, filled, credited, tokens_hold, credit_holds, verdict_here, verdict_there, is_admitted, settled, origin, state, span, Claim}
-use Rattle.fair.proofs.Runs.{shown, sum_shown, highest_shown, lowest_shown, since_shown, clock_shown, back_shown, each_shown}
+use Rattle.fair.specs.Demand.{Batch, Deed, Here, There, Cut, CutThere, Rates, Idle, stamp, Lawful, Kept, absent, present, State, priced, filled, credited, tokens_hold, credit_holds, verdict_here, verdict_there, is_admitted, settled, origin, state, span, Claim}
+use Rattle.fair.proofs.Runs.{shown, sum_shown, highest_shown, oldest_shown, lowest_shown, since_shown, clock_shown, back_shown, each_shown}
 use Rattle.fair.proofs.Tokens.{tokens_claim}
 use Rattle.fair.proofs.Credit.{credit_claim}
 use Rattle.fair.proofs.Spared.{spared}
@@ -71,6 +71,7 @@ module _ (rate ceiling : ℕ → ℕ) (overflow : Bool) (d : ℕ) (small : d < d
   see_tokens (There b c drops) h = tokens.Judge b.stamp (b.cost d) (is_admitted (verdict_there (state rate ceiling overflow h) (clock stamp h) b c))
   see_tokens (Cut c) h = tokens.Cut (c d)
   see_tokens (CutThere c) h = tokens.Cut (c d)
+  see_tokens (Rates t x z) h = tokens.Rates t (x d) (z d)
   see_tokens Idle h = tokens.Other
 
   tokens_stamp : (c : Deed) (h : List Deed) → stamp c ≡ tokens.stamp (see_tokens c h)
@@ -79,6 +80,7 @@ module _ (rate ceiling : ℕ → ℕ) (overflow : Bool) (d : ℕ) (small : d < d
   tokens_stamp (There b c drops) h = refl
   tokens_stamp (Cut c) h = refl
   tokens_stamp (CutThere c) h = refl
+  tokens_stamp (Rates t x z) h = refl
   tokens_stamp Idle h = refl
 
   tokens_lawful : (c : Deed) (h : List Deed) → Lawful c → tokens.Lawful (see_tokens c h)
@@ -87,52 +89,56 @@ module _ (rate ceiling : ℕ → ℕ) (overflow : Bool) (d : ℕ) (small : d < d
   tokens_lawful (There b c drops) h l = (l.0, l.1 d small)
   tokens_lawful (Cut c) h l = l d small
   tokens_lawful (CutThere c) h l = l d small
+  tokens_lawful (Rates t x z) h l = (l.0, (l.1 d small).0, (l.1 d small).1)
   tokens_lawful Idle h l = tt
 
   tokens_clock : (h : List Deed) → clock stamp h ≡ clock tokens.stamp (shown see_tokens h)
   tokens_clock h = clock_shown see_tokens stamp tokens.stamp tokens_stamp h
 
-  -- a judgement of the bucket b', which is b, where what is admitted is covered
-  judge_same : (b b' : Bucket) (k k' t c : ℕ) (ok : Bool) → b' ≡ b → k ≡ k' → (ok ≡ true → Ieee.le (whole c) (tokens.ready b k t).tokens ≡ true)
-      → (tokens.admits (tokens.ready b' k' t) c ok ≡ ok) × (tokens.paid (tokens.admits (tokens.ready b' k' t) c ok) (tokens.ready b' k' t) c ≡ tokens.paid ok (tokens.ready b k t) c)
-  judge_same b b' k k' t c ok e q f =
-      let a : tokens.admits (tokens.ready b' k' t) c ok ≡ ok = rw (e, ← q) (and_same ok (Ieee.le (whole c) (tokens.ready b k t).tokens) f) in
+  -- a judgement of the pot p', which is p, where what is admitted is covered
+  judge_same : (p p' : Pot) (k k' t c : ℕ) (ok : Bool) → p' ≡ p → k ≡ k' → (ok ≡ true → Ieee.le (whole c) (tokens.ready p.bucket k t).tokens ≡ true)
+      → (tokens.admits (tokens.ready p'.bucket k' t) c ok ≡ ok)
+      × (tokens.holding p' (tokens.paid (tokens.admits (tokens.ready p'.bucket k' t) c ok) (tokens.ready p'.bucket k' t) c) ≡ tokens.holding p (tokens.paid ok (tokens.ready p.bucket k t) c))
+  judge_same p p' k k' t c ok e q f =
+      let a : tokens.admits (tokens.ready p'.bucket k' t) c ok ≡ ok = rw (e, ← q) (and_same ok (Ieee.le (whole c) (tokens.ready p.bucket k t).tokens) f) in
       (a, rw a (rw (e, ← q)))
 
   tokens_hold_at : (s : State) (k : ℕ) (b : Batch) → tokens_hold s k b ≡ true → Ieee.le (whole (b.cost d)) (filled s k b d).tokens ≡ true
   tokens_hold_at s k b e = all-at (λ (d : ℕ). Ieee.le (whole (b.cost d)) (filled s k b d).tokens) dims d small e
 
-  bucket_same : (h : List Deed) → tokens.bucket (rate d) (ceiling d) (shown see_tokens h) ≡ (state rate ceiling overflow h).bucket d
-  unfolding tokens.bucket shown see_tokens state
-  bucket_same [] = refl
-  bucket_same (Here b fill ∷ h) =
+  pot_same : (h : List Deed) → tokens.pot (rate d) (ceiling d) (shown see_tokens h) ≡ (state rate ceiling overflow h).pot d
+  unfolding tokens.pot shown see_tokens state
+  pot_same [] = refl
+  pot_same (Here b fill ∷ h) =
       let s = state rate ceiling overflow h in
       let ok = is_admitted (verdict_here s (clock stamp h) b fill) in
-      (judge_same (s.bucket d) (tokens.bucket (rate d) (ceiling d) (shown see_tokens h)) (clock stamp h) (clock tokens.stamp (shown see_tokens h)) b.stamp (b.cost d) ok (bucket_same h) (tokens_clock h)
+      (judge_same (s.pot d) (tokens.pot (rate d) (ceiling d) (shown see_tokens h)) (clock stamp h) (clock tokens.stamp (shown see_tokens h)) b.stamp (b.cost d) ok (pot_same h) (tokens_clock h)
       (λ e. tokens_hold_at s (clock stamp h) b (admits_both b.want (credit_holds s (clock stamp h) b fill) (tokens_hold s (clock stamp h) b) b.reserve e).1)).1
-  bucket_same (There b c drops ∷ h) =
+  pot_same (There b c drops ∷ h) =
       let s = state rate ceiling overflow h in
       let ok = is_admitted (verdict_there s (clock stamp h) b c) in
-      (judge_same (s.bucket d) (tokens.bucket (rate d) (ceiling d) (shown see_tokens h)) (clock stamp h) (clock tokens.stamp (shown see_tokens h)) b.stamp (b.cost d) ok (bucket_same h) (tokens_clock h)
+      (judge_same (s.pot d) (tokens.pot (rate d) (ceiling d) (shown see_tokens h)) (clock stamp h) (clock tokens.stamp (shown see_tokens h)) b.stamp (b.cost d) ok (pot_same h) (tokens_clock h)
       (λ e. tokens_hold_at s (clock stamp h) b (admits_both b.want c (tokens_hold s (clock stamp h) b) b.reserve e).1)).1
-  bucket_same (Cut c ∷ h) = rw (bucket_same h)
-  bucket_same (CutThere c ∷ h) = rw (bucket_same h)
-  bucket_same (Idle ∷ h) = bucket_same h
+  pot_same (Cut c ∷ h) = rw (pot_same h)
+  pot_same (CutThere c ∷ h) = rw (pot_same h)
+  pot_same (Rates t x z ∷ h) = rw (pot_same h, ← tokens_clock h)
+  pot_same (Idle ∷ h) = pot_same h
 
   admitted_same : (c : Deed) (h : List Deed) → demand.admitted rate ceiling overflow d c h ≡ tokens.admitted (rate d) (ceiling d) (see_tokens c h) (shown see_tokens h)
   unfolding see_tokens
   admitted_same (Here b fill) h =
       let s = state rate ceiling overflow h in
       let ok = is_admitted (verdict_here s (clock stamp h) b fill) in
-      ap (λ (x : Bool). cond x (b.cost d) 0) (sym (judge_same (s.bucket d) (tokens.bucket (rate d) (ceiling d) (shown see_tokens h)) (clock stamp h) (clock tokens.stamp (shown see_tokens h)) b.stamp (b.cost d) ok (bucket_same h) (tokens_clock h)
+      ap (λ (x : Bool). cond x (b.cost d) 0) (sym (judge_same (s.pot d) (tokens.pot (rate d) (ceiling d) (shown see_tokens h)) (clock stamp h) (clock tokens.stamp (shown see_tokens h)) b.stamp (b.cost d) ok (pot_same h) (tokens_clock h)
       (λ e. tokens_hold_at s (clock stamp h) b (admits_both b.want (credit_holds s (clock stamp h) b fill) (tokens_hold s (clock stamp h) b) b.reserve e).1)).0)
   admitted_same (There b c drops) h =
       let s = state rate ceiling overflow h in
       let ok = is_admitted (verdict_there s (clock stamp h) b c) in
-      ap (λ (x : Bool). cond x (b.cost d) 0) (sym (judge_same (s.bucket d) (tokens.bucket (rate d) (ceiling d) (shown see_tokens h)) (clock stamp h) (clock tokens.stamp (shown see_tokens h)) b.stamp (b.cost d) ok (bucket_same h) (tokens_clock h)
+      ap (λ (x : Bool). cond x (b.cost d) 0) (sym (judge_same (s.pot d) (tokens.pot (rate d) (ceiling d) (shown see_tokens h)) (clock stamp h) (clock tokens.stamp (shown see_tokens h)) b.stamp (b.cost d) ok (pot_same h) (tokens_clock h)
       (λ e. tokens_hold_at s (clock stamp h) b (admits_both b.want c (tokens_hold s (clock stamp h) b) b.reserve e).1)).0)
   admitted_same (Cut c) h = refl
   admitted_same (CutThere c) h = refl
+  admitted_same (Rates t x z) h = refl
   admitted_same Idle h = refl
 
   handed_same : (c : Deed) (h : List Deed) → demand.handed d c h ≡ tokens.handed (see_tokens c h) (shown see_tokens h)
@@ -141,19 +147,29 @@ module _ (rate ceiling : ℕ → ℕ) (overflow : Bool) (d : ℕ) (small : d < d
   handed_same (There b c drops) h = refl
   handed_same (Cut c) h = refl
   handed_same (CutThere c) h = refl
+  handed_same (Rates t x z) h = refl
   handed_same Idle h = refl
 
-  tokens_back : (k : ℕ) (h : List Deed) → clock stamp (back k h) ≡ clock tokens.stamp (back k (shown see_tokens h))
-  tokens_back k h = tokens_clock (back k h) ∙ ap (clock tokens.stamp) (back_shown see_tokens k h)
+  next_clock : (c : Deed) (h : List Deed) → clock stamp (c ∷ h) ≡ clock tokens.stamp (see_tokens c h ∷ shown see_tokens h)
+  unfolding shown
+  next_clock c h = tokens_clock (c ∷ h)
+
+  carried_same : (c : Deed) (h : List Deed) → demand.carried rate ceiling overflow d c h ≡ tokens.carried (rate d) (ceiling d) (see_tokens c h) (shown see_tokens h)
+  carried_same c h = rw (← pot_same h, ← tokens_clock h, ← next_clock c h)
+
+  burst_same : (c : Deed) (h : List Deed) → demand.burst_after rate ceiling overflow d c h ≡ tokens.burst_after (rate d) (ceiling d) (see_tokens c h) (shown see_tokens h)
+  unfolding shown
+  burst_same c h = ap (λ (p : Pot). tokens.burst p.rate p.ceiling) (sym (pot_same (c ∷ h)))
 
   pub relay : (1 ≤ rate d) × (rate d ≤ 2 ^ 40) → (h : List Deed) → Each Lawful h → (k : ℕ)
-      → 1000 * parts * sum (demand.admitted rate ceiling overflow d) (suc k) h ≤ 1000 * parts * tokens.burst (rate d) (ceiling d) + parts * (rate d * span h k) + 1000 * parts * sum (demand.handed d) (suc k) h + 1000 * suc k
+      → 1000 * parts * sum (demand.admitted rate ceiling overflow d) (suc k) h
+      ≤ 1000 * parts * oldest (demand.burst_after rate ceiling overflow d) k h + parts * sum (demand.carried rate ceiling overflow d) k h + 1000 * parts * sum (demand.handed d) (suc k) h + 1000 * suc k
   relay r h l k =
       rw (
         sum_shown see_tokens (demand.admitted rate ceiling overflow d) (tokens.admitted (rate d) (ceiling d)) admitted_same (suc k) h,
+        oldest_shown see_tokens (demand.burst_after rate ceiling overflow d) (tokens.burst_after (rate d) (ceiling d)) burst_same k h,
+        sum_shown see_tokens (demand.carried rate ceiling overflow d) (tokens.carried (rate d) (ceiling d)) carried_same k h,
         sum_shown see_tokens (demand.handed d) tokens.handed handed_same (suc k) h,
-        tokens_back k h,
-        tokens_clock h,
       )
       (tokens_claim (rate d) (ceiling d) r.0 r.1 (shown see_tokens h) (each_shown see_tokens Lawful tokens.Lawful tokens_lawful h l) k).bound
 
@@ -163,6 +179,7 @@ module _ (rate ceiling : ℕ → ℕ) (overflow : Bool) (d : ℕ) (small : d < d
   see_credit (There b c drops) h = credit.Other b.stamp drops
   see_credit (Cut c) h = credit.Cut (c d)
   see_credit (CutThere c) h = credit.Other 0 false
+  see_credit (Rates t x z) h = credit.Other t false
   see_credit Idle h = credit.Other 0 false
 
   credit_stamp : (c : Deed) (h : List Deed) → stamp c ≡ credit.stamp (see_credit c h)
@@ -171,6 +188,7 @@ module _ (rate ceiling : ℕ → ℕ) (overflow : Bool) (d : ℕ) (small : d < d
   credit_stamp (There b c drops) h = refl
   credit_stamp (Cut c) h = refl
   credit_stamp (CutThere c) h = refl
+  credit_stamp (Rates t x z) h = refl
   credit_stamp Idle h = refl
 
   credit_lawful : (c : Deed) (h : List Deed) → Lawful c → credit.Lawful (see_credit c h)
@@ -179,6 +197,7 @@ module _ (rate ceiling : ℕ → ℕ) (overflow : Bool) (d : ℕ) (small : d < d
   credit_lawful (There b c drops) h l = l.0
   credit_lawful (Cut c) h l = l d small
   credit_lawful (CutThere c) h l = lit< tt
+  credit_lawful (Rates t x z) h l = l.0
   credit_lawful Idle h l = lit< tt
 
   credit_clock : (h : List Deed) → clock stamp h ≡ clock credit.stamp (shown see_credit h)
@@ -232,6 +251,7 @@ module _ (rate ceiling : ℕ → ℕ) (overflow : Bool) (d : ℕ) (small : d < d
       let u = demand.found (state rate ceiling overflow h).used (clock stamp h) in
       upto_length (λ (i : ℕ). Ieee.add Ieee.binary64 (at u.credit i) (at (priced c) i)) dims u.credit ∙ found_shaped (state rate ceiling overflow h).used (clock stamp h) (shaped h)
   shaped (CutThere c ∷ h) = shaped h
+  shaped (Rates t x z ∷ h) = shaped h
   shaped (Idle ∷ h) = shaped h
 
   -- ---- the parts, one by one
@@ -304,6 +324,7 @@ module _ (rate ceiling : ℕ → ℕ) (overflow : Bool) (d : ℕ) (small : d < d
       let s = state rate ceiling overflow h in
       rw (← credit_clock h, place_same h, found_same s.used (clock stamp h)) (ap credit.kept (returned_same (demand.found s.used (clock stamp h)) c (found_shaped s.used (clock stamp h) (shaped h))))
   place_same (CutThere c ∷ h) = place_same h
+  place_same (Rates t x z ∷ h) = place_same h
   place_same (Idle ∷ h) = place_same h
 
   standing_same : (h : List Deed) (b : Batch) (fill : List Float)
@@ -322,6 +343,7 @@ module _ (rate ceiling : ℕ → ℕ) (overflow : Bool) (d : ℕ) (small : d < d
   admitted_here_same (There b c drops) h = refl
   admitted_here_same (Cut c) h = refl
   admitted_here_same (CutThere c) h = refl
+  admitted_here_same (Rates t x z) h = refl
   admitted_here_same Idle h = refl
 
   handed_here_same : (c : Deed) (h : List Deed) → demand.handed_here d c h ≡ credit.handed (see_credit c h) (shown see_credit h)
@@ -330,6 +352,7 @@ module _ (rate ceiling : ℕ → ℕ) (overflow : Bool) (d : ℕ) (small : d < d
   handed_here_same (There b c drops) h = refl
   handed_here_same (Cut c) h = refl
   handed_here_same (CutThere c) h = refl
+  handed_here_same (Rates t x z) h = refl
   handed_here_same Idle h = refl
 
   tried_here_same : (c : Deed) (h : List Deed) → demand.tried_here d c h ≡ credit.tried (see_credit c h) (shown see_credit h)
@@ -338,6 +361,7 @@ module _ (rate ceiling : ℕ → ℕ) (overflow : Bool) (d : ℕ) (small : d < d
   tried_here_same (There b c drops) h = refl
   tried_here_same (Cut c) h = refl
   tried_here_same (CutThere c) h = refl
+  tried_here_same (Rates t x z) h = refl
   tried_here_same Idle h = refl
 
   fill_here_same : (c : Deed) (h : List Deed) → demand.fill_here d c h ≡ credit.fill (see_credit c h) (shown see_credit h)
@@ -346,6 +370,7 @@ module _ (rate ceiling : ℕ → ℕ) (overflow : Bool) (d : ℕ) (small : d < d
   fill_here_same (There b c drops) h = refl
   fill_here_same (Cut c) h = refl
   fill_here_same (CutThere c) h = refl
+  fill_here_same (Rates t x z) h = refl
   fill_here_same Idle h = refl
 
   here_same : (c : Deed) (h : List Deed) → demand.here c h ≡ credit.judges (see_credit c h) (shown see_credit h)
@@ -354,6 +379,7 @@ module _ (rate ceiling : ℕ → ℕ) (overflow : Bool) (d : ℕ) (small : d < d
   here_same (There b c drops) h = refl
   here_same (Cut c) h = refl
   here_same (CutThere c) h = refl
+  here_same (Rates t x z) h = refl
   here_same Idle h = refl
 
   credit_back : (k : ℕ) (h : List Deed) → clock stamp (back k h) ≡ clock credit.stamp (back k (shown see_credit h))

@@ -12,7 +12,6 @@ use Rattle.std.specs.Prelude.{Option, Some, None}
 use Rattle.ieee.specs.Doubles.{nothing}
 use Rattle.flow.specs.Flow as flow
 use Rattle.flow.specs.Flow.{dims}
-use Rattle.flow.specs.declared.Bucket.{Bucket}
 use Rattle.flow.specs.declared.Use.{Use}
 use Rattle.sender.specs.declared.Name as sender_name
 use Rattle.sender.specs.declared.Unit as unit
@@ -23,6 +22,7 @@ use Rattle.shifting.specs.Offsets.{«PARTS»}
 use Rattle.parts.specs.Parts.{Rows, end, find, added, use_of, slot_at}
 use Rattle.store_entry.specs.Entering.{Entered, entered, place, entry, used_at, put_back}
 use Rattle.store_entry.proofs.Own.{table_below}
+use Rattle.fair.specs.Tokens.{Pot}
 use Rattle.fair.specs.Store as model
 use Rattle.fair.specs.Calls as calls
 use Rattle.fair.specs.Demand.{Kept, present, there, found}
@@ -54,8 +54,8 @@ module _ (room : ℕ) where
   lift calls.shared = model.shared
   lift (calls.own u) = model.own (named (sender.name_of u))
 
-  abbrev pub viewed : (ℕ → Bucket) → Rows → ℕ → Use → S
-  viewed b m n o = record { bucket = b; rows = listed room m n; overflow = o }
+  abbrev pub viewed : (ℕ → Pot) → Rows → ℕ → Use → S
+  viewed b m n o = record { pot = b; rows = listed room m n; overflow = o }
 
   -- with the place that the unit's row gets in the model if it is new
   module _ (m : Rows) (n : ℕ) (o : Use) (at : ℕ) (k : K) where
@@ -65,13 +65,13 @@ module _ (room : ℕ) where
       pub over : o' ≡ model.overflow_with Name same shares room k (present x) o
       pub held : Held room m' n'
 
-    pub record Placed (b : ℕ → Bucket) (u : unit.Unit) (now : ℕ) (e : Entered) : Type 0 where
+    pub record Placed (b : ℕ → Pot) (u : unit.Unit) (now : ℕ) (e : Entered) : Type 0 where
       pub key : k ≡ lift (calls.key_at (ltb e.place.at room) u)
       pub used : used_at e.rows o e.place.at ≡ found (model.look Name same shares room k (viewed b m n o)) now
       pub whole : Whole (used_at e.rows o e.place.at)
       pub back : (x : Use) → Whole x → After x (put_back e.rows o e.place.at x).rows e.place.tracked (put_back e.rows o e.place.at x).overflow
 
-  module _ (b : ℕ → Bucket) (m : Rows) (n : ℕ) (o : Use) (ho : Whole o) (hold : Held room m n) (u : unit.Unit) (now : ℕ) where
+  module _ (b : ℕ → Pot) (m : Rows) (n : ℕ) (o : Use) (ho : Whole o) (hold : Held room m n) (u : unit.Unit) (now : ℕ) where
     abbrev w : sender_name.Name
     w = sender.name_of u
 

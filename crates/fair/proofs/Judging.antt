@@ -13,6 +13,7 @@ use Rattle.flow.proofs.Parts.{all-at}
 use Rattle.sender.specs.Sender as sender
 use Rattle.flow.specs.Flow.{dims, bucket_at}
 use Rattle.verdict.specs.Verdict.{is_admitted}
+use Rattle.flow.specs.declared.Bucket.{Bucket}
 use Rattle.flow.specs.declared.Use.{Use}
 use Rattle.verdict.specs.declared.Outcome.{Outcome}
 use Rattle.verdict.specs.declared.Verdict.{Verdict}
@@ -34,6 +35,7 @@ use Rattle.head.proofs.Numbers.{number_some}
 use Rattle.fair.specs.Given as goal
 use Rattle.fair.specs.Given.{Memory, memory}
 use Rattle.head.proofs.Asked.{asked_ready}
+use Rattle.fair.specs.Tokens.{Pot, pot_of, holding}
 use Rattle.fair.specs.Store as model
 use Rattle.fair.specs.Demand as demand
 use Rattle.fair.specs.Demand.{Batch, Here, present, verdict_here, does}
@@ -69,7 +71,7 @@ outcome_is : (h : Shedder) (u : unit.Unit) (cost : List ℕ) (t : ℕ) (e : goal
 unfolding goal.outcome goal.numbers
 outcome_is h u cost t e = refl
 
-module _ (room : ℕ) (rate : List ℕ) where
+module _ (room : ℕ) (rate ceiling : List ℕ) where
   abbrev S : Type 0
   S = entry.S room
 
@@ -90,35 +92,37 @@ module _ (room : ℕ) (rate : List ℕ) where
   over_whole (model.own v) x o p q = q
 
   -- ---- a use is put back, and the flow is another
-  module _ (h : Shedder) (m : Rows) (st : S) (clk : ℕ) (b : Tied room rate h m st clk) where
-    so : viewed room st.bucket m h.tracked h.overflow ≡ st
-    so = ap (λ (xs : List (R room)). record { bucket = st.bucket; rows = xs; overflow = h.overflow }) b.rows_is ∙ ap (λ (x : Use). record { bucket = st.bucket; rows = st.rows; overflow = x }) b.overflow_is
+  module _ (h : Shedder) (m : Rows) (st : S) (clk : ℕ) (b : Tied room rate ceiling h m st clk) where
+    so : viewed room st.pot m h.tracked h.overflow ≡ st
+    so = ap (λ (xs : List (R room)). record { pot = st.pot; rows = xs; overflow = h.overflow }) b.rows_is ∙ ap (λ (x : Use). record { pot = st.pot; rows = st.rows; overflow = x }) b.overflow_is
 
-    pub placed : (u : unit.Unit) (now : ℕ) → Placed room m h.tracked h.overflow (new_place m u) (resolve st u) st.bucket u now (goal.entry m h.tracked h.unit_room u now)
+    pub placed : (u : unit.Unit) (now : ℕ) → Placed room m h.tracked h.overflow (new_place m u) (resolve st u) st.pot u now (goal.entry m h.tracked h.unit_room u now)
     placed u now =
-        subst (λ (r : ℕ). Placed room m h.tracked h.overflow (new_place m u) (resolve st u) st.bucket u now (goal.entry m h.tracked r u now)) (sym b.room_is)
-        (subst (λ (z : S). Placed room m h.tracked h.overflow (new_place m u) (resolve z u) st.bucket u now (goal.entry m h.tracked room u now)) so
-        (entry.entry_placed room st.bucket m h.tracked h.overflow b.whole b.held u now))
+        subst (λ (r : ℕ). Placed room m h.tracked h.overflow (new_place m u) (resolve st u) st.pot u now (goal.entry m h.tracked r u now)) (sym b.room_is)
+        (subst (λ (z : S). Placed room m h.tracked h.overflow (new_place m u) (resolve z u) st.pot u now (goal.entry m h.tracked room u now)) so
+        (entry.entry_placed room st.pot m h.tracked h.overflow b.whole b.held u now))
 
     -- the use that is found is the model's
-    pub found-is : (u : unit.Unit) (now : ℕ) (e : goal.Entered) → Placed room m h.tracked h.overflow (new_place m u) (resolve st u) st.bucket u now e
+    pub found-is : (u : unit.Unit) (now : ℕ) (e : goal.Entered) → Placed room m h.tracked h.overflow (new_place m u) (resolve st u) st.pot u now e
         → goal.used_at e.rows h.overflow e.place.at ≡ demand.found (seen (resolve st u) st).used now
     found-is u now e p = p.used ∙ ap (λ (z : S). demand.found (model.look Name same shares room (resolve st u) z) now) so
 
-    pub headed_tied : (u : unit.Unit) (now : ℕ) (e : goal.Entered) → Placed room m h.tracked h.overflow (new_place m u) (resolve st u) st.bucket u now e
-        → (f : Flow) (x : Use) (t : demand.State) → Whole x → present x ≡ t.used → f.rate ≡ rate → clk ≤ f.at_ms → length f.buckets ≡ dims → ((d : ℕ) → d < dims → bucket_at f.buckets d ≡ t.bucket d)
-        → Tied room rate (goal.headed h f (goal.put_back e.rows h.overflow e.place.at x).overflow e.place.tracked)
+    pub headed_tied : (u : unit.Unit) (now : ℕ) (e : goal.Entered) → Placed room m h.tracked h.overflow (new_place m u) (resolve st u) st.pot u now e
+        → (f : Flow) (x : Use) (t : demand.State) → Whole x → present x ≡ t.used → f.rate ≡ rate → f.ceiling ≡ ceiling → clk ≤ f.at_ms → length f.buckets ≡ dims
+        → ((d : ℕ) → d < dims → pot_of (bucket_at f.buckets d) (get_or rate d 0) (get_or ceiling d 0) ≡ t.pot d)
+        → Tied room rate ceiling (goal.headed h f (goal.put_back e.rows h.overflow e.place.at x).overflow e.place.tracked)
         (goal.put_back e.rows h.overflow e.place.at x).rows
         (after (new_place m u) (resolve st u) t st) f.at_ms
-    headed_tied u now e p f x t hx ux fr fc fl fb =
+    headed_tied u now e p f x t hx ux fr fz fc fl fb =
         let a = p.back x hx in
         let k = resolve st u in
         record {
           rate_is = fr;
+          ceiling_is = fz;
           room_is = b.room_is;
           clock_is = refl;
           long = fl;
-          bucket_is = fb;
+          pot_is = fb;
           rows_is = a.list ∙ ap (λ (y : demand.Kept). model.rows_with Name same shares room (new_place m u) k y (listed room m h.tracked)) ux
               ∙ ap (λ (xs : List (R room)). model.rows_with Name same shares room (new_place m u) k t.used xs) b.rows_is;
           overflow_is = a.over ∙ ap (λ (y : demand.Kept). model.overflow_with Name same shares room k y h.overflow) ux
@@ -131,7 +135,7 @@ module _ (room : ℕ) (rate : List ℕ) where
         }
 
   -- ---- the judgement before counting and scanning
-  module _ (h : Shedder) (m : Rows) (st : S) (b : Tied room rate h m st h.flow.at_ms) (u : unit.Unit) (cost : List ℕ) (t : ℕ) where
+  module _ (h : Shedder) (m : Rows) (st : S) (b : Tied room rate ceiling h m st h.flow.at_ms) (u : unit.Unit) (cost : List ℕ) (t : ℕ) where
     abbrev now : ℕ
     now = max t h.flow.at_ms
 
@@ -146,11 +150,11 @@ module _ (room : ℕ) (rate : List ℕ) where
     k = resolve st u
 
     sound : outcome.Sound (seen k st) h.flow.buckets h.flow.at_ms t cost (fills h) h.level (goal.rank_at (sender.hash_of u) e.place.at h.unit_room) (found_at h e)
-    sound = outcome.outcome_sound h.flow.buckets h.flow.at_ms t cost (fills h) h.level (goal.rank_at (sender.hash_of u) e.place.at h.unit_room) b.long (seen k st) b.bucket_is
+    sound = outcome.outcome_sound h.flow.buckets h.flow.at_ms t cost (fills h) h.level (goal.rank_at (sender.hash_of u) e.place.at h.unit_room) b.long (seen k st) (λ d small. ap (λ (p : Pot). p.bucket) (b.pot_is d small))
         (found_at h e) (found-is h m st h.flow.at_ms b u now e (placed h m st h.flow.at_ms b u now))
 
     passing_tied : (cst : List Float) (o : Outcome) → o ≡ outcome_at h u cost t e
-        → Tied room rate (goal.passing h now cst e o (goal.put_back e.rows h.overflow e.place.at o.used)).head
+        → Tied room rate ceiling (goal.passing h now cst e o (goal.put_back e.rows h.overflow e.place.at o.used)).head
         (goal.passing h now cst e o (goal.put_back e.rows h.overflow e.place.at o.used)).rows (after (new_place m u) k (does (seen k st) h.flow.at_ms deed) st) now
     unfolding goal.flowed
     passing_tied cst o q =
@@ -159,14 +163,16 @@ module _ (room : ℕ) (rate : List ℕ) where
         (outcome.outcome_whole h.flow.buckets h.flow.at_ms t cost (fills h) h.level (goal.rank_at (sender.hash_of u) e.place.at h.unit_room) b.long (found_at h e) (placed h m st h.flow.at_ms b u now).whole))
         (ap (λ (o : Outcome). present o.used) q ∙ sound.used)
         b.rate_is
+        b.ceiling_is
         (let x : h.flow.at_ms ≤ max t h.flow.at_ms = omega arith in x)
         (ap (λ (o : Outcome). length o.buckets) q ∙ outcome.outcome_long h.flow.buckets h.flow.at_ms t cost (fills h) h.level (goal.rank_at (sender.hash_of u) e.place.at h.unit_room) b.long (found_at h e))
-        (λ d small. ap (λ (o : Outcome). bucket_at o.buckets d) q ∙ sound.bucket d small)
+        (λ d small. ap (λ (x : Bucket). pot_of x (get_or rate d 0) (get_or ceiling d 0)) (ap (λ (o : Outcome). bucket_at o.buckets d) q ∙ sound.bucket d small)
+        ∙ ap (λ (p : Pot). holding p ((does (seen k st) h.flow.at_ms deed).pot d).bucket) (b.pot_is d small))
 
     abbrev p : goal.Through
     p = goal.judged h m u (goal.numbers cost) now
 
-    pub judged_tied : Tied room rate p.head p.rows (after (new_place m u) k (does (seen k st) h.flow.at_ms deed) st) now
+    pub judged_tied : Tied room rate ceiling p.head p.rows (after (new_place m u) k (does (seen k st) h.flow.at_ms deed) st) now
     unfolding goal.judged
     judged_tied = passing_tied (goal.numbers cost) (goal.outcome_at h u (goal.numbers cost) now e) (outcome_is h u cost t e)
 
@@ -175,14 +181,15 @@ module _ (room : ℕ) (rate : List ℕ) where
     judged_verdict = ap (λ (o : Outcome). o.verdict) (outcome_is h u cost t e) ∙ sound.verdict
 
   -- ---- counting leaves the tie
-  counted_tied : (h : Shedder) (n c r : ℕ) (m : Rows) (st : S) (clk : ℕ) → Tied room rate h m st clk → Tied room rate (goal.added h n c r) m st clk
+  counted_tied : (h : Shedder) (n c r : ℕ) (m : Rows) (st : S) (clk : ℕ) → Tied room rate ceiling h m st clk → Tied room rate ceiling (goal.added h n c r) m st clk
   unfolding goal.added
   counted_tied h n c r m st clk b = record {
     rate_is = b.rate_is;
+    ceiling_is = b.ceiling_is;
     room_is = b.room_is;
     clock_is = b.clock_is;
     long = b.long;
-    bucket_is = b.bucket_is;
+    pot_is = b.pot_is;
     rows_is = b.rows_is;
     overflow_is = b.overflow_is;
     whole = b.whole;
@@ -193,15 +200,16 @@ module _ (room : ℕ) (rate : List ℕ) where
   }
 
   -- other tags behind those of the unit records leave it too
-  behind_tied : (h : Shedder) (m : Rows) (ts : List ℕ) (st : S) (clk : ℕ) → Tied room rate h m st clk → Tied room rate h (with_tags m (take h.unit_room m.tags ++ ts)) st clk
+  behind_tied : (h : Shedder) (m : Rows) (ts : List ℕ) (st : S) (clk : ℕ) → Tied room rate ceiling h m st clk → Tied room rate ceiling h (with_tags m (take h.unit_room m.tags ++ ts)) st clk
   behind_tied h m ts st clk b =
       let l = b.held.well.sound.room in
-      subst (λ (r : ℕ). Tied room rate h (with_tags m (take r m.tags ++ ts)) st clk) (sym b.room_is) (record {
+      subst (λ (r : ℕ). Tied room rate ceiling h (with_tags m (take r m.tags ++ ts)) st clk) (sym b.room_is) (record {
         rate_is = b.rate_is;
+        ceiling_is = b.ceiling_is;
         room_is = b.room_is;
         clock_is = b.clock_is;
         long = b.long;
-        bucket_is = b.bucket_is;
+        pot_is = b.pot_is;
         rows_is = listed_behind room m h.tracked b.held ts h.tracked (omega (arith, b.held.room_is)) ∙ b.rows_is;
         overflow_is = b.overflow_is;
         whole = b.whole;
@@ -217,8 +225,8 @@ module _ (room : ℕ) (rate : List ℕ) where
   abbrev rows_then : Rows → goal.Tally → Rows
   rows_then m t = with_tags m t.tags
 
-  pub tallied_tied : (h : Shedder) (k : List (List ℕ)) (n : sender_name.Name) (c r : ℕ) (m : Rows) (st : S) (clk : ℕ) → Tied room rate h m st clk
-      → Tied room rate (goal.tallied (tally_on h m k) n c r).head (rows_then m (goal.tallied (tally_on h m k) n c r)) st clk
+  pub tallied_tied : (h : Shedder) (k : List (List ℕ)) (n : sender_name.Name) (c r : ℕ) (m : Rows) (st : S) (clk : ℕ) → Tied room rate ceiling h m st clk
+      → Tied room rate ceiling (goal.tallied (tally_on h m k) n c r).head (rows_then m (goal.tallied (tally_on h m k) n c r)) st clk
   unfolding goal.tallied
   tallied_tied h k n c r m st clk b =
       let own : List ℕ = goal.source_tags (tally_on h m k) in
@@ -226,12 +234,12 @@ module _ (room : ℕ) (rate : List ℕ) where
       let ts = counts.pruned_tags s (counts.count_tags own k h.counted n) in
       counted_tied h (counts.pruned s).count c r (with_tags m (take h.unit_room m.tags ++ ts)) st clk (behind_tied h m ts st clk b)
 
-  pub verdict_tied : (h : Shedder) (k : List (List ℕ)) (n : sender_name.Name) (v : Verdict) (cost : List ℕ) (m : Rows) (st : S) (clk : ℕ) → Tied room rate h m st clk
-      → Tied room rate (goal.count_verdict (tally_on h m k) n v cost).head (rows_then m (goal.count_verdict (tally_on h m k) n v cost)) st clk
+  pub verdict_tied : (h : Shedder) (k : List (List ℕ)) (n : sender_name.Name) (v : Verdict) (cost : List ℕ) (m : Rows) (st : S) (clk : ℕ) → Tied room rate ceiling h m st clk
+      → Tied room rate ceiling (goal.count_verdict (tally_on h m k) n v cost).head (rows_then m (goal.count_verdict (tally_on h m k) n v cost)) st clk
   unfolding goal.count_verdict
   verdict_tied h k n v cost m st clk b = go (is_admitted v)
     where
-      go : (c : Bool) → Tied room rate (cond c (tally_on h m k) (goal.tallied (tally_on h m k) n (goal.cause_of v) (get_or cost 0 0))).head (rows_then m (cond c (tally_on h m k) (goal.tallied (tally_on h m k) n (goal.cause_of v) (get_or cost 0 0)))) st clk
+      go : (c : Bool) → Tied room rate ceiling (cond c (tally_on h m k) (goal.tallied (tally_on h m k) n (goal.cause_of v) (get_or cost 0 0))).head (rows_then m (cond c (tally_on h m k) (goal.tallied (tally_on h m k) n (goal.cause_of v) (get_or cost 0 0)))) st clk
       go true = b
       go false = tallied_tied h k n (goal.cause_of v) (get_or cost 0 0) m st clk b
 
@@ -248,18 +256,18 @@ module _ (room : ℕ) (rate : List ℕ) where
   head_then h m u cost now = (tally_then h m u cost now).head
 
   abbrev pub judge_call_at : Shedder → Memory → unit.Unit → List ℕ → ℕ → ℕ → goal.Entered → C
-  judge_call_at h m u cost t now e = model.Judge (name_of u) (batch_at h u cost t e) (fills h) (tied.came room rate (head_then h m u cost now) (rows_then (goal.judged h m.rows u (goal.numbers cost) now).rows (tally_then h m u cost now)) m.hist now) (new_place m.rows u)
+  judge_call_at h m u cost t now e = model.Judge (name_of u) (batch_at h u cost t e) (fills h) (tied.came room rate ceiling (head_then h m u cost now) (rows_then (goal.judged h m.rows u (goal.numbers cost) now).rows (tally_then h m u cost now)) m.hist now) (new_place m.rows u)
 
   abbrev pub judge_call : Shedder → Memory → unit.Unit → List ℕ → ℕ → C
   judge_call h m u cost t = judge_call_at h m u cost t (max t h.flow.at_ms) (goal.entry m.rows h.tracked h.unit_room u (max t h.flow.at_ms))
 
-  module _ (h : Shedder) (m : Memory) (st : S) (b : Tied room rate h m.rows st h.flow.at_ms) (u : unit.Unit) (cost : List ℕ) (t : ℕ) where
-    pub bounded_tied : Tied room rate (goal.bounded h m u cost t).head (goal.bounded h m u cost t).memory.rows (model.step Name same shares room st h.flow.at_ms (judge_call h m u cost t)) (max t h.flow.at_ms)
+  module _ (h : Shedder) (m : Memory) (st : S) (b : Tied room rate ceiling h m.rows st h.flow.at_ms) (u : unit.Unit) (cost : List ℕ) (t : ℕ) where
+    pub bounded_tied : Tied room rate ceiling (goal.bounded h m u cost t).head (goal.bounded h m u cost t).memory.rows (model.step Name same shares room st h.flow.at_ms (judge_call h m u cost t)) (max t h.flow.at_ms)
     unfolding goal.bounded
     bounded_tied =
         let now = max t h.flow.at_ms in
         let p = goal.judged h m.rows u (goal.numbers cost) now in
-        tied.scanned_tied room rate (head_then h m u cost now) (rows_then p.rows (tally_then h m u cost now)) m.hist _ now
+        tied.scanned_tied room rate ceiling (head_then h m u cost now) (rows_then p.rows (tally_then h m u cost now)) m.hist _ now
         (verdict_tied p.head m.counted (sender.name_of u) p.verdict cost p.rows _ now (judged_tied h m.rows st b u cost t))
 
     pub bounded_answer : (goal.bounded h m u cost t).answer
@@ -315,19 +323,19 @@ judge_costs h s os cost t e =
     (zero_yes (goal.costs_held cost) _ 4 b.1).0
 
 -- THE JUDGEMENT
-module _ (room : ℕ) (rate : List ℕ) (rates : goal.all_rates rate ≡ true) (h : Shedder) (m : Memory) (st : entry.S room) (b : Tied room rate h m.rows st h.flow.at_ms) (u : unit.Unit) (cost : List ℕ) (t : ℕ)
+module _ (room : ℕ) (rate ceiling : List ℕ) (rates : goal.all_rates rate ≡ true) (h : Shedder) (m : Memory) (st : entry.S room) (b : Tied room rate ceiling h m.rows st h.flow.at_ms) (u : unit.Unit) (cost : List ℕ) (t : ℕ)
     (f : calls.refused (calls.state_of h m) (calls.Judge u cost t) ≡ false) where
   pub took : Taken h m u cost t
   took = taken h m u cost t (ap goal.is_unbounded b.rate_is ∙ not_unbounded rate rates) f
 
-  pub judge_tied : Tied room rate (goal.judge h m u cost t).head (goal.judge h m u cost t).memory.rows (model.step Name same shares room st h.flow.at_ms (judge_call room rate h m u cost t)) (max t h.flow.at_ms)
+  pub judge_tied : Tied room rate ceiling (goal.judge h m u cost t).head (goal.judge h m u cost t).memory.rows (model.step Name same shares room st h.flow.at_ms (judge_call room rate ceiling h m u cost t)) (max t h.flow.at_ms)
   judge_tied =
-      subst (λ (j : goal.Judged). Tied room rate j.head j.memory.rows (model.step Name same shares room st h.flow.at_ms (judge_call room rate h m u cost t)) (max t h.flow.at_ms)) (sym took.is)
-      (bounded_tied room rate h m st b u cost t)
+      subst (λ (j : goal.Judged). Tied room rate ceiling j.head j.memory.rows (model.step Name same shares room st h.flow.at_ms (judge_call room rate ceiling h m u cost t)) (max t h.flow.at_ms)) (sym took.is)
+      (bounded_tied room rate ceiling h m st b u cost t)
 
   pub judge_answer : (goal.judge h m u cost t).answer
-      ≡ goal.answer_of (verdict_here (seen room rate (resolve room rate st u) st) h.flow.at_ms (batch_at h u cost t (goal.entry m.rows h.tracked h.unit_room u (max t h.flow.at_ms))) (fills h))
-  judge_answer = ap (λ (j : goal.Judged). j.answer) took.is ∙ bounded_answer room rate h m st b u cost t
+      ≡ goal.answer_of (verdict_here (seen room rate ceiling (resolve room rate ceiling st u) st) h.flow.at_ms (batch_at h u cost t (goal.entry m.rows h.tracked h.unit_room u (max t h.flow.at_ms))) (fills h))
+  judge_answer = ap (λ (j : goal.Judged). j.answer) took.is ∙ bounded_answer room rate ceiling h m st b u cost t
 
   pub judge_stamp : t < 2 ^ 53
   judge_stamp = (asked_ready h (sizes_of m.rows m.counted) m.rows.offsets cost t took.asked).stamp_held
@@ -336,7 +344,7 @@ module _ (room : ℕ) (rate : List ℕ) (rates : goal.all_rates rate ≡ true) (
   judge_small = small_costs cost (judge_costs h (sizes_of m.rows m.counted) m.rows.offsets cost t took.asked)
 
   -- the record that it uses is the model's
-  pub judge_key : resolve room rate st u ≡ entry.lift room (calls.key (calls.state_of h m) u (max t h.flow.at_ms))
+  pub judge_key : resolve room rate ceiling st u ≡ entry.lift room (calls.key (calls.state_of h m) u (max t h.flow.at_ms))
   judge_key =
-      (placed room rate h m.rows st h.flow.at_ms b u (max t h.flow.at_ms)).key
+      (placed room rate ceiling h m.rows st h.flow.at_ms b u (max t h.flow.at_ms)).key
       ∙ ap (λ (r : ℕ). entry.lift room (calls.key_at (ltb (goal.entry m.rows h.tracked h.unit_room u (max t h.flow.at_ms)).place.at r) u)) (sym b.room_is)

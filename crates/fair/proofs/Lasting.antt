@@ -18,13 +18,15 @@ use Rattle.store.specs.declared.Cause.{Cause}
 use Rattle.fair.specs.Given as goal
 use Rattle.fair.specs.Given.{Memory, memory}
 use Rattle.fair.specs.Calls as calls
-use Rattle.fair.specs.Calls.{State, Call, Judge, Cut, Read, Lasts, Lasting}
+use Rattle.fair.specs.Calls.{State, Call, Judge, Cut, Rates, Read, Lasts, Lasting}
+use Rattle.fair.specs.Changes.{rate_of}
 use Rattle.fair.proofs.Tied.{Tied}
 use Rattle.fair.proofs.Spans.{bounded_span, after_span, on_span}
 use Rattle.fair.proofs.Steady as steady
 use Rattle.fair.proofs.Steady.{Tables, running, none, Fine}
 use Rattle.fair.proofs.Judging as judging
 use Rattle.fair.proofs.Cutting as cutting
+use Rattle.fair.proofs.Changing as changing
 use Rattle.fair.proofs.Begun as begun
 use Rattle.fair.proofs.Begun.{Rooms}
 use Rattle.fair.proofs.Calls as real
@@ -92,6 +94,15 @@ unfolding goal.cut goal.noted goal.answer_number
 cut_open h m u c cost e = rw e
     (cut_picked (goal.hands_back h.flow.rate c) (goal.cut_after m.counted u c cost (goal.handed_back (goal.kept_by h m.rows) u (goal.numbers cost))) (goal.cut_after m.counted u c cost (goal.kept_by h m.rows)) refl refl)
 
+rates_asked_yes : (h : Shedder) (s : Sizes) (os rate : List ℕ) (t : ℕ) → goal.whole_with h os ≡ true → goal.memory_whole h s ≡ true → goal.all_rates rate ≡ true → goal.is_stamp t ≡ true → goal.is_unbounded h.flow.rate ≡ false
+    → goal.rates_asked h s os rate t ≡ 0
+unfolding goal.rates_asked goal.both_bounded
+rates_asked_yes h s os rate t a b c d e = rw (a, b, c, d, e, judging.not_unbounded rate c)
+
+rates_open : (h : Shedder) (m : Memory) (rate ceiling : List ℕ) (t : ℕ) → goal.rates_asked h (sizes_of m.rows m.counted) m.rows.offsets rate t ≡ 0 → calls.refused (calls.state_of h m) (Rates rate ceiling t) ≡ false
+unfolding goal.set_rates goal.answer_number
+rates_open h m rate ceiling t e = rw e refl
+
 -- ---- every list
 module _ (room size : ℕ) (rate ceiling : List ℕ) (rates : goal.all_rates rate ≡ true) (rooms : Rooms room size) where
   pub record Steady (s : State) : Type 0 where
@@ -106,37 +117,57 @@ module _ (room size : ℕ) (rate ceiling : List ℕ) (rates : goal.all_rates rat
       go true = record { fine = steady.handed_fine size h m.rows u (goal.numbers cost) h.flow.at_ms b.fine; long = b.long }
       go false = b
 
-  step_steady : (s : State) (ms : List (real.C room rate ceiling rates)) → real.Tie room rate ceiling rates s ms → (c : Call) → calls.refused s c ≡ false → Steady s → Steady (calls.step s c)
-  step_steady s ms b (Judge u cost t) f k =
+  step_steady : (s : State) (ms : List (real.C room rate ceiling rates)) {x y : List ℕ} → real.Tie room rate ceiling rates s ms x y → (c : Call) → calls.refused s c ≡ false → Steady s → Steady (calls.step s c)
+  step_steady s ms {x} {y} b (Judge u cost t) f k =
       let h = s.head in
       let m = s.memory in
+      let st = real.store_of room rate ceiling rates ms in
       let tied = real.at_clock room rate ceiling rates s ms b in
-      let a = judging.judge_tied room rate rates h m (real.store_of room rate ceiling rates ms) tied u cost t f in
+      let a = judging.judge_tied room x y b.bounded h m st tied u cost t f in
       let e : (goal.judge h m u cost t).head.flow.at_ms ≡ max t h.flow.at_ms = a.clock_is in
+      let i = (judging.took room x y b.bounded h m st tied u cost t f).is in
       record {
-        span = ap (λ (j : goal.Judged). length j.memory.rows.tags) (judging.took room rate rates h m (real.store_of room rate ceiling rates ms) tied u cost t f).is ∙ bounded_span room rate h m (real.store_of room rate ceiling rates ms) tied u cost t ∙ k.span;
+        span = ap (λ (j : goal.Judged). length j.memory.rows.tags) i ∙ bounded_span room x y h m st tied u cost t ∙ k.span;
         lasts = subst (λ (n : ℕ). steady.Lasts size (goal.judge h m u cost t).head (goal.judge h m u cost t).memory.counted n) (sym e)
-            (subst (λ (j : goal.Judged). steady.Lasts size j.head j.memory.counted (max t h.flow.at_ms)) (sym (judging.took room rate rates h m (real.store_of room rate ceiling rates ms) tied u cost t f).is) (steady.bounded_lasts size h m u cost t k.lasts));
-        low = omega (arith, judging.judge_stamp room rate rates h m (real.store_of room rate ceiling rates ms) tied u cost t f, k.low);
+            (subst (λ (j : goal.Judged). steady.Lasts size j.head j.memory.counted (max t h.flow.at_ms)) (sym i) (steady.bounded_lasts size h m u cost t k.lasts));
+        low = omega (arith, judging.judge_stamp room x y b.bounded h m st tied u cost t f, k.low);
       }
-  step_steady s ms b (Cut u c cost) f k =
+  step_steady s ms {x} {y} b (Cut u c cost) f k =
       let h = s.head in
       let m = s.memory in
+      let st = real.store_of room rate ceiling rates ms in
       let tied = real.at_clock room rate ceiling rates s ms b in
       let j = goal.cut h m.rows m.counted u c cost in
-      let a = cutting.cut_tied room rate rates h m (real.store_of room rate ceiling rates ms) tied u c cost f in
+      let a = cutting.cut_tied room x y b.bounded h m st tied u c cost f in
       let e : j.head.flow.at_ms ≡ h.flow.at_ms = a.clock_is in
+      let i = (cutting.took room x y b.bounded h m st tied u c cost f).is in
       record {
-        span = ap (λ (j : goal.Cut). length j.rows.tags) (cutting.took room rate rates h m (real.store_of room rate ceiling rates ms) tied u c cost f).is
-            ∙ after_span (cutting.cut_on h m.rows u c cost) m.counted u c cost ∙ on_span room rate h m.rows (real.store_of room rate ceiling rates ms) h.flow.at_ms tied u (goal.numbers cost) (goal.hands_back h.flow.rate c) ∙ k.span;
+        span = ap (λ (j : goal.Cut). length j.rows.tags) i
+            ∙ after_span (cutting.cut_on h m.rows u c cost) m.counted u c cost ∙ on_span room x y h m.rows st h.flow.at_ms tied u (goal.numbers cost) (goal.hands_back h.flow.rate c) ∙ k.span;
         lasts = subst (λ (n : ℕ). steady.Lasts size j.head j.counted n) (sym e)
-            (subst (λ (j : goal.Cut). steady.Lasts size j.head j.counted h.flow.at_ms) (sym (cutting.took room rate rates h m (real.store_of room rate ceiling rates ms) tied u c cost f).is)
+            (subst (λ (j : goal.Cut). steady.Lasts size j.head j.counted h.flow.at_ms) (sym i)
             (steady.noted_lasts size (cutting.cut_on h m.rows u c cost).head (cutting.cut_on h m.rows u c cost).rows.tags m.counted u c cost h.flow.at_ms (on_lasts h m u c cost k.lasts)));
         low = omega (arith, k.low);
       }
+  step_steady s ms {x} {y} b (Rates r z t) f k =
+      let h = s.head in
+      let m = s.memory in
+      let st = real.store_of room rate ceiling rates ms in
+      let tied = real.at_clock room rate ceiling rates s ms b in
+      let j = goal.set_rates h m.rows m.counted r z t in
+      let a = changing.rates_tied room x y h m st tied r z t f in
+      let e : j.head.flow.at_ms ≡ max t h.flow.at_ms = a.clock_is in
+      let i = (changing.took room x y h m st tied r z t f).is in
+      record {
+        span = k.span;
+        lasts = subst (λ (n : ℕ). steady.Lasts size j.head m.counted n) (sym e)
+            (subst (λ (j : goal.Changed). steady.Lasts size j.head m.counted (max t h.flow.at_ms)) (sym i)
+            (record { fine = steady.turned_fine size h r z t k.lasts.fine; long = k.lasts.long }));
+        low = omega (arith, (changing.asked room x y h m st tied r z t f).stamp, k.low);
+      }
   step_steady s ms b (Read q) f k = k
 
-  module _ (first : State) (b : Tied room rate first.head first.memory.rows (real.store_of room rate ceiling rates []) 0) (k : Steady first) where
+  module _ (first : State) (b : Tied room rate ceiling first.head first.memory.rows (real.store_of room rate ceiling rates []) 0) (k : Steady first) where
     all_steady : (h : List Call) → Steady (calls.state first h)
     unfolding calls.state
     all_steady [] = k
@@ -148,27 +179,33 @@ module _ (room size : ℕ) (rate ceiling : List ℕ) (rates : goal.all_rates rat
 
     head_lasts : (h : List Call) → goal.whole_with (calls.state first h).head (calls.state first h).memory.rows.offsets ≡ true
     head_lasts h =
-        let t = (real.whole room rate ceiling rates first b h).tie in
+        let i = (real.whole room rate ceiling rates first b h).tie in
+        let t = i.tied in
         let s = all_steady h in
         let w = t.held.well.sound in
         with_is (calls.state first h).head (calls.state first h).memory.rows.offsets
-        (head_yes (calls.state first h).head rate room size t.rate_is rates t.room_is rooms (omega (arith, w.room, t.held.room_is)) s.low s.lasts.fine) w.whole
+        (head_yes (calls.state first h).head (rate_of rate (calls.events first h)) room size t.rate_is i.bounded t.room_is rooms (omega (arith, w.room, t.held.room_is)) s.low s.lasts.fine) w.whole
 
     memory_lasts : (h : List Call)
         → goal.memory_whole (calls.state first h).head (sizes_of (calls.state first h).memory.rows (calls.state first h).memory.counted) ≡ true
     memory_lasts h =
-        let t = (real.whole room rate ceiling rates first b h).tie in
+        let t = (real.whole room rate ceiling rates first b h).tie.tied in
         let s = all_steady h in
         let z = t.held.well.sound.sized in
         memory_yes (calls.state first h).head _ (omega (arith, s.span, t.held.room_is, s.lasts.long)) z.slots z.free z.uses (t.held.room_is ∙ sym t.room_is) (s.lasts.long ∙ sym s.lasts.fine.room)
+
+    still_bounded : (h : List Call) → goal.is_unbounded (calls.state first h).head.flow.rate ≡ false
+    still_bounded h =
+        let i = (real.whole room rate ceiling rates first b h).tie in
+        ap goal.is_unbounded i.tied.rate_is ∙ judging.not_unbounded (rate_of rate (calls.events first h)) i.bounded
 
     pub lasting : Lasting first
     lasting = record {
       judge = λ h u cost t c d.
           let s = calls.state first h in
-          let unb = ap goal.is_unbounded (real.whole room rate ceiling rates first b h).tie.rate_is ∙ judging.not_unbounded rate rates in
-          ap (λ (j : goal.Judged). ltb 0 (goal.judge_number j.answer)) (judge_open s.head s.memory u cost t (judge_asked_yes s.head _ s.memory.rows.offsets cost t (head_lasts h) (memory_lasts h) c d) unb) ∙ bounded_taken s.head s.memory u cost t;
+          ap (λ (j : goal.Judged). ltb 0 (goal.judge_number j.answer)) (judge_open s.head s.memory u cost t (judge_asked_yes s.head _ s.memory.rows.offsets cost t (head_lasts h) (memory_lasts h) c d) (still_bounded h)) ∙ bounded_taken s.head s.memory u cost t;
       cut = λ h u c cost d. let s = calls.state first h in cut_open s.head s.memory u c cost (cut_asked_yes s.head _ s.memory.rows.offsets cost (head_lasts h) (memory_lasts h) d);
+      rates = λ h r z t c d. let s = calls.state first h in rates_open s.head s.memory r z t (rates_asked_yes s.head _ s.memory.rows.offsets r t (head_lasts h) (memory_lasts h) c d (still_bounded h));
       head = head_lasts;
       memory = memory_lasts;
     }

@@ -2,8 +2,8 @@
 -- Weighing: the numbers of a judgement. Credit: the bound on a record. Spared: no over share. Level: a stored level gives a lawful fill.
 -- The model of the store. Demand: all dimensions, one record. Rows: rows found by a name. Places: sweeps by place. Store: the demand over the model. Bridge: `verdict::judged` is the model's judgement. Example: document 01's run.
 -- The real definitions. View, Back: the lent rows as the model's; what is put is read back. Stored, Behind: what holds of the rows; other tags behind theirs. Found, Find, Put, Added, Dropped: a search, a put, a newcomer, visits.
--- Scanned, Entry: a scan of a judgement; the record that a call uses. Tied: the tie, kept by a scan. Outcome, Judging: a judgement. Cutting: a cut. Begun: a start. Stepped: a judgement of the list.
--- Calls: DEMAND 3, of every list of calls. Spans, Steady, Lasting: no list leaves a state that refuses.
+-- Scanned, Entry: a scan of a judgement; the record that a call uses. Tied: the tie, kept by a scan. Outcome, Judging: a judgement. Cutting: a cut. Changing: new rates. Begun: a start. Stepped: a judgement of the list.
+-- Calls: DEMAND 3, of every list of calls. Changes: the rates in force; runs at one rate. Spans, Steady, Lasting: no list leaves a state that refuses.
 pub mod Floats
 pub mod Runs
 pub mod Tokens
@@ -34,9 +34,11 @@ pub mod Tied
 pub mod Outcome
 pub mod Judging
 pub mod Cutting
+pub mod Changing
 pub mod Begun
 pub mod Stepped
 pub mod Calls
+pub mod Changes
 pub mod Spans
 pub mod Steady
 pub mod Lasting

@@ -66,7 +66,7 @@ weighed_long wants rank bs u c l = settled_long (verdicts.decided wants (verdict
 pub record Sound (s : State) (bs : List Bucket) (clk t : ℕ) (cost : List ℕ) (fill level : List Float) (rank : Float) (x : Use) : Type 0 where
   pub verdict : (outcome_of bs x clk t cost fill level rank).verdict ≡ verdict_here s clk (batch_of bs x clk t cost fill level rank) fill
   pub used : present (outcome_of bs x clk t cost fill level rank).used ≡ (does s clk (Here (batch_of bs x clk t cost fill level rank) fill)).used
-  pub bucket : (d : ℕ) → d < dims → bucket_at (outcome_of bs x clk t cost fill level rank).buckets d ≡ (does s clk (Here (batch_of bs x clk t cost fill level rank) fill)).bucket d
+  pub bucket : (d : ℕ) → d < dims → bucket_at (outcome_of bs x clk t cost fill level rank).buckets d ≡ ((does s clk (Here (batch_of bs x clk t cost fill level rank) fill)).pot d).bucket
 
 module _ (bs : List Bucket) (clk t : ℕ) (cost : List ℕ) (fill level : List Float) (rank : Float) (long : length bs ≡ dims) where
   pub outcome_whole : (x : Use) → Whole x → Whole (outcome_of bs x clk t cost fill level rank).used
@@ -84,7 +84,7 @@ module _ (bs : List Bucket) (clk t : ℕ) (cost : List ℕ) (fill level : List F
       let n = verdicts.met x (max t clk) fill (priced (costs cost)) in
       weighed_long (calls.want_of x (max t clk) (priced (costs cost)) fill level) rank (flow.refilled_all bs (max t clk - clk)) n (priced (costs cost)) a
 
-  pub outcome_sound : (s : State) → ((d : ℕ) → d < dims → bucket_at bs d ≡ s.bucket d) → (x : Use) → x ≡ found s.used (max t clk) → Sound s bs clk t cost fill level rank x
+  pub outcome_sound : (s : State) → ((d : ℕ) → d < dims → bucket_at bs d ≡ (s.pot d).bucket) → (x : Use) → x ≡ found s.used (max t clk) → Sound s bs clk t cost fill level rank x
   outcome_sound s same x e = subst (Sound s bs clk t cost fill level rank) (sym e) (record {
     verdict = bridge.verdict_same s bs clk t (costs cost) fill level rank long same;
     used = bridge.used_same s bs clk t (costs cost) fill level rank long same;

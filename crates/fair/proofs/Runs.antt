@@ -1,11 +1,11 @@
 -- The clock only goes forward, and stays below a bound on the stamps; and what holds of a run holds of it seen as other calls. Assumes nothing.
 use mathlib.Core.Path.{◌≡◌, refl, ◌∙◌}
-use Prim.Native.Nat.{ℕ, zero, suc, ◌≤◌, ◌<◌}
+use Prim.Native.Nat.{ℕ, zero, suc, ◌-◌, ◌≤◌, ◌<◌}
 use native.Mathlib.Nat.{le_refl}
 use native.Mathlib.Omega.{arith}
 use mathlib.Core.List.{List, [], ◌∷◌}
 use mathlib.Core.Bool.{Bool, true, false, cond}
-use Rattle.fair.specs.Runs.{sum, highest, lowest, Since, clock, back, Each, taken}
+use Rattle.fair.specs.Runs.{sum, highest, oldest, lowest, Since, clock, back, Each, taken}
 
 module _ {Call : Type 0} (stamp : Call → ℕ) where
   pub back-le : (k : ℕ) (h : List Call) → clock stamp (back k h) ≤ clock stamp h
@@ -18,10 +18,25 @@ module _ {Call : Type 0} (stamp : Call → ℕ) where
   unfolding clock
   forward c h = omega arith
 
+  -- an older call's clock is no later, and a run's length is the sum of its gaps
+  pub gaps : (k : ℕ) (h : List Call) → clock stamp h - clock stamp (back k h) ≡ sum (λ c h. clock stamp (c ∷ h) - clock stamp h) k h
+  unfolding clock back sum
+  gaps zero h = omega arith
+  gaps (suc k) [] = omega arith
+  gaps (suc k) (c ∷ h) = omega (arith, gaps k h, back-le k h)
+
   pub clock_below : (P : Call → Type 0) (m : ℕ) → 0 < m → ((c : Call) → P c → stamp c < m) → (h : List Call) → Each P h → clock stamp h < m
   unfolding clock Each
   clock_below P m z f [] l = z
   clock_below P m z f (c ∷ h) l = omega (arith, f c l.0, clock_below P m z f h l.1)
+
+-- what the first call brings is no more than the highest
+pub oldest_highest : {Call : Type 0} (w : Call → List Call → ℕ) (k : ℕ) (h : List Call) → oldest w k h ≤ highest w (suc k) h
+unfolding oldest highest
+oldest_highest w k [] = omega arith
+oldest_highest w zero (c ∷ h) = omega arith
+oldest_highest w (suc k) (c ∷ []) = omega arith
+oldest_highest w (suc k) (c ∷ d ∷ h) = omega (arith, oldest_highest w k (d ∷ h))
 
 -- ---- a history seen as one of another kind of call
 module _ {A B : Type 0} (see : A → List A → B) where
@@ -40,6 +55,13 @@ module _ {A B : Type 0} (see : A → List A → B) where
   highest_shown w v e zero h = refl
   highest_shown w v e (suc n) [] = refl
   highest_shown w v e (suc n) (c ∷ h) = omega (arith, e c h, highest_shown w v e n h)
+
+  pub oldest_shown : (w : A → List A → ℕ) (v : B → List B → ℕ) → ((c : A) (h : List A) → w c h ≡ v (see c h) (shown h)) → (k : ℕ) (h : List A) → oldest w k h ≡ oldest v k (shown h)
+  unfolding oldest shown
+  oldest_shown w v e k [] = refl
+  oldest_shown w v e zero (c ∷ h) = e c h
+  oldest_shown w v e (suc k) (c ∷ []) = e c []
+  oldest_shown w v e (suc k) (c ∷ d ∷ h) = oldest_shown w v e k (d ∷ h)
 
   pub clock_shown : (w : A → ℕ) (v : B → ℕ) → ((c : A) (h : List A) → w c ≡ v (see c h)) → (h : List A) → clock w h ≡ clock v (shown h)
   unfolding clock shown
@@ -100,6 +122,13 @@ module _ {A B : Type 0} (see : A → List A → B) (P : A → List A → Type 0)
   highest_along w v e zero h a = refl
   highest_along w v e (suc n) [] a = refl
   highest_along w v e (suc n) (c ∷ h) a = omega (arith, e c h a.0, highest_along w v e n h a.1)
+
+  pub oldest_along : (w : A → List A → ℕ) (v : B → List B → ℕ) → ((c : A) (h : List A) → P c h → w c h ≡ v (see c h) (shown see h)) → (k : ℕ) (h : List A) → Along h → oldest w k h ≡ oldest v k (shown see h)
+  unfolding oldest shown Along
+  oldest_along w v e k [] a = refl
+  oldest_along w v e zero (c ∷ h) a = e c h a.0
+  oldest_along w v e (suc k) (c ∷ []) a = e c [] a.0
+  oldest_along w v e (suc k) (c ∷ d ∷ h) a = oldest_along w v e k (d ∷ h) a.1
 
   pub clock_along : (w : A → ℕ) (v : B → ℕ) → ((c : A) (h : List A) → P c h → w c ≡ v (see c h)) → (h : List A) → Along h → clock w h ≡ clock v (shown see h)
   unfolding clock shown Along

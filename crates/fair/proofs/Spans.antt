@@ -123,19 +123,19 @@ counted_span h i k n v cost = go (is_admitted v)
     go false = tallied_span h i k n (goal.cause_of v) (get_or cost 0 0)
 
 -- ---- THE JUDGEMENT and THE CUT
-module _ (room : ℕ) (rate : List ℕ) where
-  scanned_span : (h : Shedder) (m : Rows) (g : Hist) (st : model_entry.S room) (clk : ℕ) → Tied room rate h m st clk
+module _ (room : ℕ) (rate ceiling : List ℕ) where
+  scanned_span : (h : Shedder) (m : Rows) (g : Hist) (st : model_entry.S room) (clk : ℕ) → Tied room rate ceiling h m st clk
       → length (goal.scanned (goal.scanning h m g) clk).rows.tags ≡ length m.tags
   unfolding goal.scanned
   scanned_span h m g st clk b =
       let s = goal.begun h g clk in
       let r = s.head.scan.remaining in
-      let a = begun_tied room rate h m g st clk b in
-      ap (λ (c : Counted). length c.rows.tags) (visits_are room rate m s)
+      let a = begun_tied room rate ceiling h m g st clk b in
+      ap (λ (c : Counted). length c.rows.tags) (visits_are room rate ceiling m s)
       ∙ visits_span room m s.head.tracked a.held (leb 1 r) (leb 1 (r - 1)) s.head.scan.next s.head.scan.at_ms
       (λ e. omega (arith, leb-true 1 r e, a.tables_is)) (λ e. omega (arith, leb-true 1 (r - 1) e, a.tables_is))
 
-  module _ (h : Shedder) (m : Rows) (st : model_entry.S room) (clk : ℕ) (b : Tied room rate h m st clk) (u : Unit) (cost : List Float) where
+  module _ (h : Shedder) (m : Rows) (st : model_entry.S room) (clk : ℕ) (b : Tied room rate ceiling h m st clk) (u : Unit) (cost : List Float) where
     used_span : (now : ℕ) → length (entry m h.tracked h.unit_room u now).rows.tags ≡ length m.tags
     used_span now = subst (λ (r : ℕ). length (entry m h.tracked r u now).rows.tags ≡ length m.tags) (sym b.room_is) (entry_span room m h.tracked b.held u now)
 
@@ -151,7 +151,7 @@ module _ (room : ℕ) (rate : List ℕ) where
     on_span true = handed_span
     on_span false = refl
 
-  pub bounded_span : (h : Shedder) (m : Memory) (st : model_entry.S room) → Tied room rate h m.rows st h.flow.at_ms → (u : Unit) (cost : List ℕ) (t : ℕ)
+  pub bounded_span : (h : Shedder) (m : Memory) (st : model_entry.S room) → Tied room rate ceiling h m.rows st h.flow.at_ms → (u : Unit) (cost : List ℕ) (t : ℕ)
       → length (goal.bounded h m u cost t).memory.rows.tags ≡ length m.rows.tags
   unfolding goal.bounded
   bounded_span h m st b u cost t =
@@ -159,7 +159,7 @@ module _ (room : ℕ) (rate : List ℕ) where
       let p = goal.judged h m.rows u (goal.numbers cost) now in
       let y = goal.count_verdict (goal.tally p.head p.rows.tags m.counted) (name_of u) p.verdict cost in
       scanned_span y.head (with_tags p.rows y.tags) m.hist _ now
-      (judging.verdict_tied room rate p.head m.counted (name_of u) p.verdict cost p.rows _ now (judging.judged_tied room rate h m.rows st b u cost t))
+      (judging.verdict_tied room rate ceiling p.head m.counted (name_of u) p.verdict cost p.rows _ now (judging.judged_tied room rate ceiling h m.rows st b u cost t))
       ∙ counted_span p.head p.rows.tags m.counted (name_of u) p.verdict cost ∙ judged_span h m.rows st h.flow.at_ms b u (goal.numbers cost) now
 
 pub after_span : (s : goal.KeptBy) (k : List (List ℕ)) (u : Unit) (c : Cause) (cost : List ℕ) → length (goal.cut_after k u c cost s).rows.tags ≡ length s.rows.tags

@@ -26,6 +26,7 @@ use Rattle.head.specs.declared.Shedder.{Shedder}
 use Rattle.store.specs.declared.Cause.{Cause}
 use Rattle.fair.specs.Given as goal
 use Rattle.fair.specs.Given.{Memory, memory}
+use Rattle.fair.proofs.Changing.{turned_head}
 
 -- ---- counted sources
 up_long : (rows : List (List ℕ)) (i c : ℕ) → length (counts.counted_up rows i c) ≡ length rows
@@ -160,6 +161,13 @@ module _ (size : ℕ) where
   pub handed_fine : (h : Shedder) (m : Rows) (u : unit.Unit) (cost : List Float) (clk : ℕ) → Fine size h clk → Fine size (goal.handed_back (goal.kept_by h m) u cost).head clk
   unfolding goal.handed_back goal.flowed_back
   handed_fine h m u cost clk f = record { clock = f.clock; at = f.at; began = f.began; read = f.read; tables = f.tables; room = f.room; few = f.few }
+
+  -- ---- new rates
+  pub turned_fine : (h : Shedder) (rate ceiling : List ℕ) (t : ℕ) → Fine size h h.flow.at_ms → Fine size (turned_head h rate ceiling t) (max t h.flow.at_ms)
+  unfolding goal.turned
+  turned_fine h rate ceiling t f =
+      let l : h.flow.at_ms ≤ max t h.flow.at_ms = omega arith in
+      record { clock = refl; at = le_trans f.at l; began = le_trans f.began l; read = le_trans f.read l; tables = f.tables; room = f.room; few = f.few }
 
   -- ---- counting
   pub record Tallied (t : goal.Tally) (clk : ℕ) : Type 0 where

@@ -14,12 +14,12 @@ use Rattle.fair.proofs.Entry as entry
 use Rattle.fair.proofs.Tied.{Tied}
 use Rattle.fair.proofs.Judging as judging
 
-module _ (room : ℕ) (rate : List ℕ) (rates : goal.all_rates rate ≡ true) where
-  pub judge_step : (s : State) (st : entry.S room) (clk : ℕ) → Tied room rate s.head s.memory.rows st clk → (u : unit.Unit) (cost : List ℕ) (t : ℕ) → calls.refused s (Judge u cost t) ≡ false
-      → Tied room rate (calls.step s (Judge u cost t)).head (calls.step s (Judge u cost t)).memory.rows (model.step Name same shares room st clk (judging.judge_call room rate s.head s.memory u cost t)) (max t clk)
+module _ (room : ℕ) (rate ceiling : List ℕ) (rates : goal.all_rates rate ≡ true) where
+  pub judge_step : (s : State) (st : entry.S room) (clk : ℕ) → Tied room rate ceiling s.head s.memory.rows st clk → (u : unit.Unit) (cost : List ℕ) (t : ℕ) → calls.refused s (Judge u cost t) ≡ false
+      → Tied room rate ceiling (calls.step s (Judge u cost t)).head (calls.step s (Judge u cost t)).memory.rows (model.step Name same shares room st clk (judging.judge_call room rate ceiling s.head s.memory u cost t)) (max t clk)
   judge_step s st clk b u cost t f =
       let h = s.head in
       let m = s.memory in
-      let at_clock = subst (λ (k : ℕ). Tied room rate h m.rows st k) (sym b.clock_is) b in
-      subst (λ (k : ℕ). Tied room rate (goal.judge h m u cost t).head (goal.judge h m u cost t).memory.rows (model.step Name same shares room st k (judging.judge_call room rate h m u cost t)) (max t k)) b.clock_is
-      (judging.judge_tied room rate rates h m st at_clock u cost t f)
+      let at_clock = subst (λ (k : ℕ). Tied room rate ceiling h m.rows st k) (sym b.clock_is) b in
+      subst (λ (k : ℕ). Tied room rate ceiling (goal.judge h m u cost t).head (goal.judge h m u cost t).memory.rows (model.step Name same shares room st k (judging.judge_call room rate ceiling h m u cost t)) (max t k)) b.clock_is
+      (judging.judge_tied room rate ceiling rates h m st at_clock u cost t f)

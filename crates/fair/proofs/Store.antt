@@ -14,14 +14,14 @@ use Rattle.verdict.specs.declared.Verdict.{Verdict}
 use Rattle.verdict.specs.declared.Verdict.TheVariants.{OverShare}
 use Rattle.flow.specs.Flow as flow
 use Rattle.flow.specs.Flow.{dims, at}
-use Rattle.fair.specs.Runs.{sum, highest, lowest, clock, back, Each}
+use Rattle.fair.specs.Runs.{sum, highest, oldest, lowest, clock, back, Each}
 use Rattle.fair.specs.Bounds.{most_depth, least_depth, parts}
 use Rattle.fair.specs.Tokens.{burst}
 use Rattle.fair.specs.Demand as demand
-use Rattle.fair.specs.Demand.{Batch, Deed, Here, There, CutThere, Idle, Kept, absent, present, State, does, verdict_here, verdict_there, credit_holds, is_admitted, settled, credited, priced, state}
+use Rattle.fair.specs.Demand.{Batch, Deed, Here, There, CutThere, Rates, Idle, Kept, absent, present, State, does, verdict_here, verdict_there, credit_holds, is_admitted, settled, credited, priced, state}
 use Rattle.fair.specs.Store as shed
 use Rattle.fair.specs.Store.{Row, Key, shared, own, Store, Call, Judge, Cut, Other, Claim}
-use Rattle.fair.proofs.Runs.{shown, sum_shown, highest_shown, lowest_shown, since_shown, clock_shown, back_shown, each_shown}
+use Rattle.fair.proofs.Runs.{shown, sum_shown, highest_shown, oldest_shown, lowest_shown, since_shown, clock_shown, back_shown, each_shown}
 use Rattle.fair.proofs.Rows.{Distinct, distinct_put, distinct_swept, goes, get-same, get_other, get_swept, stays, goes_old, young, same_of}
 use Rattle.fair.proofs.Demand.{demand_three}
 
@@ -114,14 +114,15 @@ module _ (Name : Type 0) (same : Name → Name → Bool) (is : (u v : Name) → 
   abbrev deed : K → S → ℕ → C → Deed
   deed r s clk (Judge u b fill scanned place) = judge_deed (same_key r (resolve s u)) r (resolve s u) s clk b fill scanned place
   deed r s clk (Cut u c place) = cond (same_key r (resolve s u)) (demand.Cut c) (CutThere c)
+  deed r s clk (shed.Rates t x z) = Rates t x z
   deed r s clk Other = Idle
 
   judge_follow : (m : Bool) (r k : K) (s : S) (clk : ℕ) (b : Batch) (fill : List Float) (scanned : ℕ → R → Bool) (place : ℕ) → Apart s.rows → same_key r k ≡ m
       → seen r (shed.swept Name same shares room (stale scanned (max b.stamp clk)) (shed.after Name same shares room place k (judged k s clk b fill) s)) ≡ does (seen r s) clk (judge_deed m r k s clk b fill scanned place)
   judge_follow true r k s clk b fill scanned place z e =
       subst (λ (q : K). seen q (shed.swept Name same shares room (stale scanned (max b.stamp clk)) (shed.after Name same shares room place k (judged k s clk b fill) s)) ≡ does (seen q s) clk (Here b fill)) (sym (key_of r k e))
-      (ap (λ (y : Kept). record { bucket = (judged k s clk b fill).bucket; used = y }) (own_look k s clk b fill scanned place z))
-  judge_follow false r k s clk b fill scanned place z e = ap (λ (y : Kept). record { bucket = (judged k s clk b fill).bucket; used = y }) (other_look r k s clk b fill scanned place z e)
+      (ap (λ (y : Kept). record { pot = (judged k s clk b fill).pot; used = y }) (own_look k s clk b fill scanned place z))
+  judge_follow false r k s clk b fill scanned place z e = ap (λ (y : Kept). record { pot = (judged k s clk b fill).pot; used = y }) (other_look r k s clk b fill scanned place z e)
 
   cut_look : (k : K) (s : S) (clk : ℕ) (c : ℕ → ℕ) (place : ℕ) → look k (shed.after Name same shares room place k (does (seen k s) clk (demand.Cut c)) s) ≡ (does (seen k s) clk (demand.Cut c)).used
   cut_look shared s clk c place = refl
@@ -137,12 +138,14 @@ module _ (Name : Type 0) (same : Name → Name → Bool) (is : (u v : Name) → 
       → seen r (shed.after Name same shares room place k (does (seen k s) clk (demand.Cut c)) s) ≡ does (seen r s) clk (cond m (demand.Cut c) (CutThere c))
   cut_follow true r k s clk c place e =
       subst (λ (q : K). seen q (shed.after Name same shares room place k (does (seen k s) clk (demand.Cut c)) s) ≡ does (seen q s) clk (demand.Cut c)) (sym (key_of r k e))
-      (ap (λ (y : Kept). record { bucket = (does (seen k s) clk (demand.Cut c)).bucket; used = y }) (cut_look k s clk c place))
-  cut_follow false r k s clk c place e = ap (λ (y : Kept). record { bucket = (does (seen k s) clk (demand.Cut c)).bucket; used = y }) (cut_other r k s clk c place e)
+      (ap (λ (y : Kept). record { pot = (does (seen k s) clk (demand.Cut c)).pot; used = y }) (cut_look k s clk c place))
+  cut_follow false r k s clk c place e = ap (λ (y : Kept). record { pot = (does (seen k s) clk (demand.Cut c)).pot; used = y }) (cut_other r k s clk c place e)
 
   follow : (r : K) (s : S) (clk : ℕ) (c : C) → Apart s.rows → seen r (shed.step Name same shares room s clk c) ≡ does (seen r s) clk (deed r s clk c)
   follow r s clk (Judge u b fill scanned place) z = judge_follow (same_key r (resolve s u)) r (resolve s u) s clk b fill scanned place z refl
   follow r s clk (Cut u c place) z = cut_follow (same_key r (resolve s u)) r (resolve s u) s clk c place refl
+  follow shared s clk (shed.Rates t x y) z = refl
+  follow (own v) s clk (shed.Rates t x y) z = refl
   follow r s clk Other z = refl
 
   -- ---- no name twice
@@ -156,6 +159,7 @@ module _ (Name : Type 0) (same : Name → Name → Bool) (is : (u v : Name) → 
       distinct_swept Name same shares room is self (stale scanned (max b.stamp clk)) (shed.rows_with Name same shares room place (resolve s u) (judged (resolve s u) s clk b fill).used s.rows)
       (with_apart (resolve s u) place (judged (resolve s u) s clk b fill).used s.rows z)
   step_apart s clk (Cut u c place) z = with_apart (resolve s u) place (does (seen (resolve s u) s) clk (demand.Cut c)).used s.rows z
+  step_apart s clk (shed.Rates t x y) z = z
   step_apart s clk Other z = z
 
   -- ---- every history
@@ -191,6 +195,7 @@ module _ (Name : Type 0) (same : Name → Name → Bool) (is : (u v : Name) → 
           go true = refl
           go false = refl
       stamp_same (Cut u c place) h = stamp_pick (same_key r (resolve (store h) u)) (demand.Cut c) (CutThere c) 0 refl refl
+      stamp_same (shed.Rates t x z) h = refl
       stamp_same Other h = refl
 
       clock_same : (h : List C) → clock stamp h ≡ clock demand.stamp (shown see h)
@@ -236,6 +241,7 @@ module _ (Name : Type 0) (same : Name → Name → Bool) (is : (u v : Name) → 
             go : (m : Bool) → 0 ≡ demand.admitted rate ceiling (is_shared r) d (cond m (demand.Cut c) (CutThere c)) (shown see h)
             go true = refl
             go false = refl
+        admitted_same (shed.Rates t x z) h = refl
         admitted_same Other h = refl
 
         handed_same : (c : C) (h : List C) → shed.handed Name same shares room d c h ≡ demand.handed d (see c h) (shown see h)
@@ -250,7 +256,19 @@ module _ (Name : Type 0) (same : Name → Name → Bool) (is : (u v : Name) → 
             go : (m : Bool) → c d ≡ demand.handed d (cond m (demand.Cut c) (CutThere c)) (shown see h)
             go true = refl
             go false = refl
+        handed_same (shed.Rates t x z) h = refl
         handed_same Other h = refl
+
+        next_clock : (c : C) (h : List C) → clock stamp (c ∷ h) ≡ clock demand.stamp (see c h ∷ shown see h)
+        unfolding shown
+        next_clock c h = clock_same (c ∷ h)
+
+        carried_same : (c : C) (h : List C) → shed.carried Name same shares room rate ceiling d c h ≡ demand.carried rate ceiling (is_shared r) d (see c h) (shown see h)
+        carried_same c h = ap (λ (x : State). (x.pot d).rate * (clock stamp (c ∷ h) - clock stamp h)) (seen_same h) ∙ rw (← clock_same h, ← next_clock c h)
+
+        burst_same : (c : C) (h : List C) → shed.burst_after Name same shares room rate ceiling d c h ≡ demand.burst_after rate ceiling (is_shared r) d (see c h) (shown see h)
+        unfolding shown
+        burst_same c h = ap (λ (x : State). burst (x.pot d).rate (x.pot d).ceiling) (seen_same (c ∷ h))
 
         admitted_on_same : (c : C) (h : List C) → shed.admitted_on Name same shares room rate ceiling r d c h ≡ demand.admitted_here rate ceiling (is_shared r) d (see c h) (shown see h)
         unfolding see
@@ -266,6 +284,7 @@ module _ (Name : Type 0) (same : Name → Name → Bool) (is : (u v : Name) → 
             go : (m : Bool) → 0 ≡ demand.admitted_here rate ceiling (is_shared r) d (cond m (demand.Cut c) (CutThere c)) (shown see h)
             go true = refl
             go false = refl
+        admitted_on_same (shed.Rates t x z) h = refl
         admitted_on_same Other h = refl
 
         -- what needs no state: over the deed that m picks
@@ -281,6 +300,7 @@ module _ (Name : Type 0) (same : Name → Name → Bool) (is : (u v : Name) → 
             go : (m : Bool) → cond m (c d) 0 ≡ demand.handed_here d (cond m (demand.Cut c) (CutThere c)) (shown see h)
             go true = refl
             go false = refl
+        handed_on_same (shed.Rates t x z) h = refl
         handed_on_same Other h = refl
 
         tried_on_same : (c : C) (h : List C) → shed.tried_on Name same shares room rate ceiling r d c h ≡ demand.tried_here d (see c h) (shown see h)
@@ -295,6 +315,7 @@ module _ (Name : Type 0) (same : Name → Name → Bool) (is : (u v : Name) → 
             go : (m : Bool) → 0 ≡ demand.tried_here d (cond m (demand.Cut c) (CutThere c)) (shown see h)
             go true = refl
             go false = refl
+        tried_on_same (shed.Rates t x z) h = refl
         tried_on_same Other h = refl
 
         fill_on_same : (c : C) (h : List C) → shed.fill_on Name same shares room rate ceiling r d c h ≡ demand.fill_here d (see c h) (shown see h)
@@ -309,6 +330,7 @@ module _ (Name : Type 0) (same : Name → Name → Bool) (is : (u v : Name) → 
             go : (m : Bool) → 0 ≡ demand.fill_here d (cond m (demand.Cut c) (CutThere c)) (shown see h)
             go true = refl
             go false = refl
+        fill_on_same (shed.Rates t x z) h = refl
         fill_on_same Other h = refl
 
       judged_on_same : (c : C) (h : List C) → shed.judged_on Name same shares room rate ceiling r c h ≡ demand.here (see c h) (shown see h)
@@ -323,6 +345,7 @@ module _ (Name : Type 0) (same : Name → Name → Bool) (is : (u v : Name) → 
           go : (m : Bool) → false ≡ demand.here (cond m (demand.Cut c) (CutThere c)) (shown see h)
           go true = refl
           go false = refl
+      judged_on_same (shed.Rates t x z) h = refl
       judged_on_same Other h = refl
 
       lawful_same : (c : C) (h : List C) → shed.Lawful Name same shares room c → demand.Lawful (see c h)
@@ -337,6 +360,7 @@ module _ (Name : Type 0) (same : Name → Name → Bool) (is : (u v : Name) → 
           go : (m : Bool) → demand.Lawful (cond m (demand.Cut c) (CutThere c))
           go true = l
           go false = l
+      lawful_same (shed.Rates t x z) h l = l
       lawful_same Other h l = tt
 
       back_same : (k : ℕ) (h : List C) → clock stamp (back k h) ≡ clock demand.stamp (back k (shown see h))
@@ -390,13 +414,13 @@ module _ (Name : Type 0) (same : Name → Name → Bool) (is : (u v : Name) → 
     module _ (rates : (d : ℕ) → d < dims → (1 ≤ rate d) × (rate d ≤ 2 ^ 40)) where
       pub relay : (h : List C) → Each (shed.Lawful Name same shares room) h → (d : ℕ) → d < dims → (k : ℕ)
           → 1000 * parts * sum (shed.admitted Name same shares room rate ceiling d) (suc k) h
-          ≤ 1000 * parts * burst (rate d) (ceiling d) + parts * (rate d * shed.span Name same shares room h k) + 1000 * parts * sum (shed.handed Name same shares room d) (suc k) h + 1000 * suc k
+          ≤ 1000 * parts * oldest (shed.burst_after Name same shares room rate ceiling d) k h + parts * sum (shed.carried Name same shares room rate ceiling d) k h + 1000 * parts * sum (shed.handed Name same shares room d) (suc k) h + 1000 * suc k
       relay h l d small k =
           rw (
             sum_shown (see shared) (shed.admitted Name same shares room rate ceiling d) (demand.admitted rate ceiling true d) (admitted_same shared d) (suc k) h,
+            oldest_shown (see shared) (shed.burst_after Name same shares room rate ceiling d) (demand.burst_after rate ceiling true d) (burst_same shared d) k h,
+            sum_shown (see shared) (shed.carried Name same shares room rate ceiling d) (demand.carried rate ceiling true d) (carried_same shared d) k h,
             sum_shown (see shared) (shed.handed Name same shares room d) (demand.handed d) (handed_same shared d) (suc k) h,
-            back_same shared k h,
-            clock_same shared h,
           )
           ((demand_three rate ceiling rates true).relay (shown (see shared) h) (lawful_all shared h l) d small k)
 

@@ -1,4 +1,4 @@
--- How the real state and the model's store are tied, and that a scan keeps them so: its visits are one sweep. Assumes nothing.
+-- How the real state and the model's store are tied at the rates in force, and that a scan keeps them so: its visits are one sweep. Assumes nothing.
 use mathlib.Core.Path.{◌≡◌, refl, sym, ap, ◌∙◌, subst}
 use Prim.Native.Nat.{ℕ, ◌+◌, ◌-◌, ◌≤◌, ◌<◌}
 use native.Mathlib.Nat.{le_refl}
@@ -6,7 +6,7 @@ use native.Mathlib.Omega.{arith}
 use mathlib.Core.Bool.{Bool, true, false, cond}
 use mathlib.Core.List.{List}
 use lib.Dec.{eqb, leb, ltb}
-use lib.ListN.{length, length-replicate}
+use lib.ListN.{length, get_or, length-replicate}
 use lib.Ieee as Ieee
 use lib.Ieee.{Float, binary64, nan}
 use lib.Ieee.Fits.{mul-fits}
@@ -20,6 +20,7 @@ use Rattle.wants.specs.Wants as wants
 use Rattle.wants.specs.Wants.{Hist}
 use Rattle.head.specs.declared.Shedder.{Shedder}
 use Rattle.fair.specs.Given as goal
+use Rattle.fair.specs.Tokens.{pot_of}
 use Rattle.fair.specs.Store as model
 use Rattle.fair.proofs.Level.{Level, level_is}
 use Rattle.fair.proofs.View.{Name, same, shares, R, listed}
@@ -31,12 +32,13 @@ use Rattle.fair.proofs.Scanned.{Counted, visits, listed_scanned}
 
 module _ (room : ℕ) where
   -- ---- the tie
-  pub record Tied (rate : List ℕ) (h : Shedder) (m : Rows) (st : entry.S room) (clk : ℕ) : Type 0 where
+  pub record Tied (rate ceiling : List ℕ) (h : Shedder) (m : Rows) (st : entry.S room) (clk : ℕ) : Type 0 where
     pub rate_is : h.flow.rate ≡ rate
+    pub ceiling_is : h.flow.ceiling ≡ ceiling
     pub room_is : h.unit_room ≡ room
     pub clock_is : h.flow.at_ms ≡ clk
     pub long : length h.flow.buckets ≡ dims
-    pub bucket_is : (d : ℕ) → d < dims → bucket_at h.flow.buckets d ≡ st.bucket d
+    pub pot_is : (d : ℕ) → d < dims → pot_of (bucket_at h.flow.buckets d) (get_or rate d 0) (get_or ceiling d 0) ≡ st.pot d
     pub rows_is : listed room m h.tracked ≡ st.rows
     pub overflow_is : h.overflow ≡ st.overflow
     pub whole : Whole h.overflow
@@ -47,27 +49,28 @@ module _ (room : ℕ) where
 
   -- the store with other rows
   abbrev with_rows : entry.S room → List (R room) → entry.S room
-  with_rows st xs = record { bucket = st.bucket; rows = xs; overflow = st.overflow }
+  with_rows st xs = record { pot = st.pot; rows = xs; overflow = st.overflow }
 
   -- with those that the memory holds
   abbrev read : entry.S room → Shedder → Rows → entry.S room
   read st h m = with_rows st (listed room m h.tracked)
 
-  module _ (rate : List ℕ) where
-    re_rows : (h : Shedder) (m : Rows) (st : entry.S room) (clk : ℕ) (xs : List (R room)) → st.rows ≡ xs → Tied rate h m st clk → Tied rate h m (with_rows st xs) clk
-    re_rows h m st clk xs e b = subst (λ (ys : List (R room)). Tied rate h m (with_rows st ys) clk) e b
+  module _ (rate ceiling : List ℕ) where
+    re_rows : (h : Shedder) (m : Rows) (st : entry.S room) (clk : ℕ) (xs : List (R room)) → st.rows ≡ xs → Tied rate ceiling h m st clk → Tied rate ceiling h m (with_rows st xs) clk
+    re_rows h m st clk xs e b = subst (λ (ys : List (R room)). Tied rate ceiling h m (with_rows st ys) clk) e b
 
     -- ---- visits
-    visit_tied : (h : Shedder) (m : Rows) (g : Hist) (st : entry.S room) (clk : ℕ) → 1 ≤ h.scan.remaining → Tied rate h m st clk
-        → Tied rate (goal.visit (goal.scanning h m g)).head (goal.visit (goal.scanning h m g)).rows
+    visit_tied : (h : Shedder) (m : Rows) (g : Hist) (st : entry.S room) (clk : ℕ) → 1 ≤ h.scan.remaining → Tied rate ceiling h m st clk
+        → Tied rate ceiling (goal.visit (goal.scanning h m g)).head (goal.visit (goal.scanning h m g)).rows
         (read st (goal.visit (goal.scanning h m g)).head (goal.visit (goal.scanning h m g)).rows) clk
     unfolding goal.visit goal.visited
     visit_tied h m g st clk l b = record {
       rate_is = b.rate_is;
+      ceiling_is = b.ceiling_is;
       room_is = b.room_is;
       clock_is = b.clock_is;
       long = b.long;
-      bucket_is = b.bucket_is;
+      pot_is = b.pot_is;
       rows_is = refl;
       overflow_is = b.overflow_is;
       whole = b.whole;
@@ -78,13 +81,13 @@ module _ (room : ℕ) where
     }
 
     -- a second one, if a table is left
-    again_tied : (s : goal.Scanning) (st : entry.S room) (clk : ℕ) → Tied rate s.head s.rows st clk
-        → Tied rate (goal.again s).head (goal.again s).rows (read st (goal.again s).head (goal.again s).rows) clk
+    again_tied : (s : goal.Scanning) (st : entry.S room) (clk : ℕ) → Tied rate ceiling s.head s.rows st clk
+        → Tied rate ceiling (goal.again s).head (goal.again s).rows (read st (goal.again s).head (goal.again s).rows) clk
     unfolding goal.again
     again_tied s st clk b = go (leb 1 s.head.scan.remaining) refl
       where
         go : (c : Bool) → leb 1 s.head.scan.remaining ≡ c
-            → Tied rate (cond c (goal.visit s) s).head (cond c (goal.visit s) s).rows (read st (cond c (goal.visit s) s).head (cond c (goal.visit s) s).rows) clk
+            → Tied rate ceiling (cond c (goal.visit s) s).head (cond c (goal.visit s) s).rows (read st (cond c (goal.visit s) s).head (cond c (goal.visit s) s).rows) clk
         go true e = visit_tied s.head s.rows s.hist st clk (leb-true 1 s.head.scan.remaining e) b
         go false e = re_rows s.head s.rows st clk (listed room s.rows s.head.tracked) (sym b.rows_is) b
 
@@ -95,14 +98,15 @@ module _ (room : ℕ) where
         subst Level (sym (upto_at nan (λ (d : ℕ). most (Ieee.mul binary64 (at gap d) (at trim d)) one) dims goal.zeros d small (omega (arith, length-replicate dims nothing))))
         (level_is (Ieee.mul binary64 (at gap d) (at trim d)) (mul-fits binary64 (at gap d) (at trim d)))
 
-    trimmed_tied : (h : Shedder) (m : Rows) (g : Hist) (st : entry.S room) (clk : ℕ) → Tied rate h m st clk → Tied rate (goal.trimmed h g) m st clk
+    trimmed_tied : (h : Shedder) (m : Rows) (g : Hist) (st : entry.S room) (clk : ℕ) → Tied rate ceiling h m st clk → Tied rate ceiling (goal.trimmed h g) m st clk
     unfolding goal.trimmed
     trimmed_tied h m g st clk b = record {
       rate_is = b.rate_is;
+      ceiling_is = b.ceiling_is;
       room_is = b.room_is;
       clock_is = b.clock_is;
       long = b.long;
-      bucket_is = b.bucket_is;
+      pot_is = b.pot_is;
       rows_is = b.rows_is;
       overflow_is = b.overflow_is;
       whole = b.whole;
@@ -112,11 +116,11 @@ module _ (room : ℕ) where
       held = b.held;
     }
 
-    ended_tied : (h : Shedder) (m : Rows) (g : Hist) (st : entry.S room) (clk : ℕ) → Tied rate h m st clk → Tied rate (goal.ended h g) m st clk
+    ended_tied : (h : Shedder) (m : Rows) (g : Hist) (st : entry.S room) (clk : ℕ) → Tied rate ceiling h m st clk → Tied rate ceiling (goal.ended h g) m st clk
     unfolding goal.ended
     ended_tied h m g st clk b = go (eqb h.scan.remaining 0)
       where
-        go : (c : Bool) → Tied rate (cond c (goal.trimmed h g) h) m st clk
+        go : (c : Bool) → Tied rate ceiling (cond c (goal.trimmed h g) h) m st clk
         go true = trimmed_tied h m g st clk b
         go false = b
 
@@ -129,14 +133,15 @@ module _ (room : ℕ) where
         go false = refl
 
     -- ---- a scan begins
-    opened_tied : (h : Shedder) (m : Rows) (st : entry.S room) (clk : ℕ) → Tied rate h m st clk → Tied rate (goal.opened h clk) m st clk
+    opened_tied : (h : Shedder) (m : Rows) (st : entry.S room) (clk : ℕ) → Tied rate ceiling h m st clk → Tied rate ceiling (goal.opened h clk) m st clk
     unfolding goal.opened
     opened_tied h m st clk b = record {
       rate_is = b.rate_is;
+      ceiling_is = b.ceiling_is;
       room_is = b.room_is;
       clock_is = b.clock_is;
       long = b.long;
-      bucket_is = b.bucket_is;
+      pot_is = b.pot_is;
       rows_is = b.rows_is;
       overflow_is = b.overflow_is;
       whole = b.whole;
@@ -146,11 +151,11 @@ module _ (room : ℕ) where
       held = b.held;
     }
 
-    pub begun_tied : (h : Shedder) (m : Rows) (g : Hist) (st : entry.S room) (clk : ℕ) → Tied rate h m st clk → Tied rate (goal.begun h g clk).head m st clk
+    pub begun_tied : (h : Shedder) (m : Rows) (g : Hist) (st : entry.S room) (clk : ℕ) → Tied rate ceiling h m st clk → Tied rate ceiling (goal.begun h g clk).head m st clk
     unfolding goal.begun
     begun_tied h m g st clk b = go (leb 1 h.scan.remaining) (ltb clk (h.scan.began_ms + 500))
       where
-        go : (c d : Bool) → Tied rate (cond c (goal.started h g) (cond d (goal.started h g) (goal.started (goal.opened h clk) wants.cleared))).head m st clk
+        go : (c d : Bool) → Tied rate ceiling (cond c (goal.started h g) (cond d (goal.started h g) (goal.started (goal.opened h clk) wants.cleared))).head m st clk
         go true d = b
         go false true = b
         go false false = opened_tied h m st clk b
@@ -191,19 +196,19 @@ module _ (room : ℕ) where
               ap (λ (n : ℕ). record { rows = v.rows; count = n }) (ended_count v.head v.hist)
           by false d = refl
 
-      module _ (st : entry.S room) (clk : ℕ) (b : Tied rate s.head m st clk) where
-        left_tied : Tied rate last.head last.rows (read st last.head last.rows) clk
+      module _ (st : entry.S room) (clk : ℕ) (b : Tied rate ceiling s.head m st clk) where
+        left_tied : Tied rate ceiling last.head last.rows (read st last.head last.rows) clk
         left_tied = by (leb 1 s.head.scan.remaining) refl
           where
             by : (c : Bool) → leb 1 s.head.scan.remaining ≡ c
-                → Tied rate (cond c (goal.ended_at (goal.again (goal.visit first))) first).head (cond c (goal.ended_at (goal.again (goal.visit first))) first).rows
+                → Tied rate ceiling (cond c (goal.ended_at (goal.again (goal.visit first))) first).head (cond c (goal.ended_at (goal.again (goal.visit first))) first).rows
                 (read st (cond c (goal.ended_at (goal.again (goal.visit first))) first).head (cond c (goal.ended_at (goal.again (goal.visit first))) first).rows) clk
             by true e =
                 let v = goal.visit first in
                 let w = goal.again v in
                 let x = read st v.head v.rows in
                 let y = read st w.head w.rows in
-                let a : Tied rate (goal.ended w.head w.hist) w.rows y clk =
+                let a : Tied rate ceiling (goal.ended w.head w.hist) w.rows y clk =
                 ended_tied w.head w.rows w.hist y clk (again_tied v x clk (visit_tied s.head m s.hist st clk (leb-true 1 s.head.scan.remaining e) b)) in
                 re_rows (goal.ended w.head w.hist) w.rows y clk (listed room w.rows (goal.ended w.head w.hist).tracked) (sym a.rows_is) a
             by false e = re_rows s.head m st clk (listed room m s.head.tracked) (sym b.rows_is) b
@@ -215,8 +220,8 @@ module _ (room : ℕ) where
             (λ e. omega (arith, leb-true 1 s.head.scan.remaining e, b.tables_is)) (λ e. omega (arith, leb-true 1 (s.head.scan.remaining - 1) e, b.tables_is)) clk b.scan_is
             ∙ ap (λ (rs : List (R room)). model.sweep Name same shares room (stale (came_from m s.head) clk) rs) b.rows_is
 
-    pub scanned_tied : (h : Shedder) (m : Rows) (g : Hist) (st : entry.S room) (clk : ℕ) → Tied rate h m st clk
-        → Tied rate (goal.scanned (goal.scanning h m g) clk).head (goal.scanned (goal.scanning h m g) clk).rows
+    pub scanned_tied : (h : Shedder) (m : Rows) (g : Hist) (st : entry.S room) (clk : ℕ) → Tied rate ceiling h m st clk
+        → Tied rate ceiling (goal.scanned (goal.scanning h m g) clk).head (goal.scanned (goal.scanning h m g) clk).rows
         (model.swept Name same shares room (stale (came h m g clk) clk) st) clk
     unfolding goal.scanned
     scanned_tied h m g st clk b =

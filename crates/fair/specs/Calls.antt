@@ -1,6 +1,6 @@
 -- Demand 3, in terms of the real calls: every list of calls on one shedder's head and memory, from a start at bounded rates on. Definitions, and the statement.
--- It says in exact terms what document 01 asks of a list of calls (its section on the verdict). All quantities come from the definitions that the contracts cite (`judge`, `cut` and what they
--- are made of), and nothing out of the program. Crate meaning's page says the same of each call: meaning/proofs/Agrees proves them equal.
+-- It says in exact terms what document 01 asks of a list of calls (its section on the verdict). All quantities come from the definitions that the contracts cite (`judge`, `cut`, `set_rates` and what
+-- they are made of), and nothing out of the program. Crate meaning's page says the same of each call: meaning/proofs/Agrees proves them equal.
 use Rattle.std.specs.Prelude.{ℕ, suc, ◌+◌, ◌-◌, ◌*◌, ◌≤◌, ◌<◌, max, ◌≡◌, Bool, true, false, cond, ◌&&◌, List, [], ◌∷◌, T, eqb, ltb, length, get_or, is_some, Float, Result, Ok, Err}
 use Rattle.std.specs.Float.Ieee as Ieee
 use Rattle.std.specs.Float.Ieee.Exact.{HasValue}
@@ -46,6 +46,8 @@ pub data Call : Type 0 where
   Judge : unit.Unit → List ℕ → ℕ → Call
   -- the unit, the cause, and the cost in each dimension
   Cut : unit.Unit → Cause → List ℕ → Call
+  -- new rates: the rate and the ceiling in each dimension, and the stamp
+  Rates : List ℕ → List ℕ → ℕ → Call
   -- a call that only reads
   Read : Reading → Call
 
@@ -69,6 +71,9 @@ judges s u cost t = shed.judge s.head s.memory u cost t
 abbrev pub cuts : State → unit.Unit → Cause → List ℕ → shed.Cut
 cuts s u c cost = shed.cut s.head s.memory.rows s.memory.counted u c cost
 
+abbrev pub changes : State → List ℕ → List ℕ → ℕ → shed.Changed
+changes s rate ceiling t = shed.set_rates s.head s.memory.rows s.memory.counted rate ceiling t
+
 -- of any call: 0 where it is not refused
 abbrev pub read_number : State → Reading → ℕ
 read_number s (Report out) = report_number s out
@@ -82,15 +87,17 @@ read_number s IsBounded = shed.bounded_number (shed.is_bounded s.head s.memory.r
 abbrev pub number : State → Call → ℕ
 number s (Judge u cost t) = shed.judge_number (judges s u cost t).answer
 number s (Cut u c cost) = shed.cut_number (cuts s u c cost).answer
+number s (Rates rate ceiling t) = shed.rates_number (changes s rate ceiling t).answer
 number s (Read q) = read_number s q
 
 abbrev pub refused : State → Call → Bool
 refused s c = ltb 0 (number s c)
 
--- ---- one step: what a call leaves, refused or not; a report or a reading leaves head and memory as they were
+-- ---- one step: what a call leaves, refused or not; new rates leave the memory as it was, a report or a reading head and memory
 abbrev pub step : State → Call → State
 step s (Judge u cost t) = state_of (judges s u cost t).head (judges s u cost t).memory
 step s (Cut u c cost) = state_of (cuts s u c cost).head (memory (cuts s u c cost).rows s.memory.hist (cuts s u c cost).counted)
+step s (Rates rate ceiling t) = state_of (changes s rate ceiling t).head s.memory
 step s (Read q) = s
 
 -- ---- the list
@@ -125,6 +132,7 @@ by f e es = f e.before e.call
 abbrev pub stamp_of : Call → ℕ
 stamp_of (Judge u cost t) = t
 stamp_of (Cut u c cost) = 0
+stamp_of (Rates rate ceiling t) = t
 stamp_of (Read q) = 0
 
 abbrev pub stamp : Event → ℕ
@@ -196,42 +204,58 @@ if_ceiling cause.RelayRate c = 0
 abbrev pub admitted : ℕ → State → Call → ℕ
 admitted d s (Judge u cost t) = if_admitted (judges s u cost t).answer (get_or cost d 0)
 admitted d s (Cut u c cost) = 0
+admitted d s (Rates rate ceiling t) = 0
 admitted d s (Read q) = 0
 
 -- a hand-back: the whole cost of a cut for the receiver's ceiling
 abbrev pub handed : ℕ → State → Call → ℕ
 handed d s (Judge u cost t) = 0
 handed d s (Cut u c cost) = if_ceiling c (get_or cost d 0)
+handed d s (Rates rate ceiling t) = 0
 handed d s (Read q) = 0
+
+-- ---- what the rates allow
+-- the gap before a call counts at the rate that was running before it; a run has no gap before its first call
+abbrev pub carried : ℕ → Event → List Event → ℕ
+carried d e es = get_or e.before.head.flow.rate d 0 * (clock stamp (e ∷ es) - clock stamp es)
+
+-- the burst of the rate and the ceiling in force after a call
+abbrev pub burst_after : ℕ → State → Call → ℕ
+burst_after d s c = burst (get_or (step s c).head.flow.rate d 0) (get_or (step s c).head.flow.ceiling d 0)
 
 -- ---- of one record
 module _ (r : Key) where
   abbrev pub admitted_on : ℕ → State → Call → ℕ
   admitted_on d s (Judge u cost t) = cond (same_key r (key s u (clock_at s t))) (if_admitted (judges s u cost t).answer (get_or cost d 0)) 0
   admitted_on d s (Cut u c cost) = 0
+  admitted_on d s (Rates rate ceiling t) = 0
   admitted_on d s (Read q) = 0
 
   -- on the record that the cut uses
   abbrev pub handed_on : ℕ → State → Call → ℕ
   handed_on d s (Judge u cost t) = 0
   handed_on d s (Cut u c cost) = if_ceiling c (cond (same_key r (key s u s.head.flow.at_ms)) (get_or cost d 0) 0)
+  handed_on d s (Rates rate ceiling t) = 0
   handed_on d s (Read q) = 0
 
   -- tried on the record: whoever sent it, whatever was answered
   abbrev pub tried_on : ℕ → State → Call → ℕ
   tried_on d s (Judge u cost t) = cond (same_key r (key s u (clock_at s t))) (get_or cost d 0) 0
   tried_on d s (Cut u c cost) = 0
+  tried_on d s (Rates rate ceiling t) = 0
   tried_on d s (Read q) = 0
 
   -- the fill met at a judgement on the record, at its exact value, in units of 2 ^ -1074; a call that is no judgement of it counts 0
   abbrev pub fill_on : ℕ → State → Call → ℕ
   fill_on d s (Judge u cost t) = cond (same_key r (key s u (clock_at s t))) (units (at (fills s) d)) 0
   fill_on d s (Cut u c cost) = 0
+  fill_on d s (Rates rate ceiling t) = 0
   fill_on d s (Read q) = 0
 
   abbrev pub judged_on : State → Call → Bool
   judged_on s (Judge u cost t) = same_key r (key s u (clock_at s t))
   judged_on s (Cut u c cost) = false
+  judged_on s (Rates rate ceiling t) = false
   judged_on s (Read q) = false
 
 -- the record is in the store; overflow's always is
@@ -253,13 +277,13 @@ pub record Valued (x : Float) : Type 0 where
   pub not_negative : nothing ⊴ x ≡ true
   pub exact : HasValue x false (units x) (power 1074)
 
--- ---- THE DEMAND, of every list of calls h, every run of n = suc k calls, every dimension, from the state `first` that a start at these rates left.
+-- ---- THE DEMAND, of every list of calls h, every run of n = suc k calls, every dimension, from the state `first` that a start left.
 -- In whole numbers: T in milliseconds, fills in units of 2 ^ -1074, all times 256000, which is 1000 * parts, and times 2 ^ 1074 where a fill stands; most_depth and least_depth are 4000 (specs/Bounds)
-pub record Demand (rate ceiling : List ℕ) (first : State) : Type 0 where
-  -- admitted cost ≤ burst + rate * T + handed back + n / 256
+pub record Demand (first : State) : Type 0 where
+  -- admitted cost ≤ the largest burst + over the run's gaps the sum of rate * length + handed back + n / 256. Where no rates change, that is burst + rate * T (specs/Changes)
   pub relay : (h : List Call) (d : ℕ) → d < dims → (k : ℕ)
       → 1000 * parts * sum (by (admitted d)) (suc k) (events first h)
-      ≤ 1000 * parts * burst (get_or rate d 0) (get_or ceiling d 0) + parts * (get_or rate d 0 * span (events first h) k) + 1000 * parts * sum (by (handed d)) (suc k) (events first h) + 1000 * suc k
+      ≤ 1000 * parts * highest (by (burst_after d)) (suc k) (events first h) + parts * sum (carried d) k (events first h) + 1000 * parts * sum (by (handed d)) (suc k) (events first h) + 1000 * suc k
   -- for each record: admitted cost on it ≤ (4 + T) * its highest fill + its hand-backs + n / 256
   pub share : (r : Key) (h : List Call) (d : ℕ) → d < dims → (k : ℕ)
       → 1000 * parts * sum (by (admitted_on r d)) (suc k) (events first h) * power 1074
@@ -279,10 +303,12 @@ pub record Demand (rate ceiling : List ℕ) (first : State) : Type 0 where
   -- whatever calls were made, each fill has an exact value
   pub fill : (h : List Call) (d : ℕ) → d < dims → Valued (at (fills (state first h)) d)
 
--- ---- AND IT LASTS: no list of calls leaves head or memory unfit, so questions 3 and 4 are never answered no: a judgement is refused by its own cost or stamp alone, a cut by its cost, a reading never
+-- ---- AND IT LASTS: no list of calls leaves head or memory unfit, so questions 3 and 4 are never answered no: a judgement is refused by its own cost or stamp alone, a cut by its cost, new rates by
+-- themselves (unbounded ones too: the relay is bounded from the start on) or their stamp, a reading never
 pub record Lasting (first : State) : Type 0 where
   pub judge : (h : List Call) (u : unit.Unit) (cost : List ℕ) (t : ℕ) → shed.costs_held cost ≡ true → shed.is_stamp t ≡ true → refused (state first h) (Judge u cost t) ≡ false
   pub cut : (h : List Call) (u : unit.Unit) (c : Cause) (cost : List ℕ) → shed.costs_held cost ≡ true → refused (state first h) (Cut u c cost) ≡ false
+  pub rates : (h : List Call) (rate ceiling : List ℕ) (t : ℕ) → shed.all_rates rate ≡ true → shed.is_stamp t ≡ true → refused (state first h) (Rates rate ceiling t) ≡ false
   pub head : (h : List Call) → shed.whole_with (state first h).head (state first h).memory.rows.offsets ≡ true
   pub memory : (h : List Call)
       → shed.memory_whole (state first h).head (sizes_of (state first h).memory.rows (state first h).memory.counted) ≡ true
@@ -296,7 +322,7 @@ left was m rate ceiling = state_of (starts was m rate ceiling).head (memory (sta
 
 -- from what a start at bounded rates left, whatever head and memory were lent to it; another start is the first state of another list
 abbrev pub Claim : Type 0
-Claim = (was : Shedder) (m : Memory) (rate ceiling : List ℕ) → shed.all_rates rate ≡ true → (starts was m rate ceiling).answer ≡ Ok tt → Demand rate ceiling (left was m rate ceiling)
+Claim = (was : Shedder) (m : Memory) (rate ceiling : List ℕ) → shed.all_rates rate ≡ true → (starts was m rate ceiling).answer ≡ Ok tt → Demand (left was m rate ceiling)
 
 abbrev pub Lasts : Type 0
 Lasts = (was : Shedder) (m : Memory) (rate ceiling : List ℕ) → shed.all_rates rate ≡ true → (starts was m rate ceiling).answer ≡ Ok tt → Lasting (left was m rate ceiling)

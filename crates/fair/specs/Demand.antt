@@ -2,7 +2,7 @@
 -- WHAT THE STORE MUST SUPPLY to carry this to the real shedder, for each record R: for each call that is not refused, its deed as R sees it, such that
 --   1. `view R` of the state after the call is `does` of `view R` of the state before it, at the clock and the deed (R's use where R is in the store, absent where not; the buckets);
 --   2. the call's answer is `verdict` of its batch, with its want, its reserve test and, for a batch of another record, its credit test, as demand 2's definition gives them;
---   3. the deed is `Lawful`: questions 5 and 6, and that a fill, min (level, rate), is a finite double from 0 to 2 ^ 40 (the level is never a NaN, and at least 1);
+--   3. the deed is `Lawful`: questions 1, 5, 6 and 10, and that a fill, min (level, rate), is a finite double from 0 to 2 ^ 40 (the level is never a NaN, and at least 1);
 --   4. a scan drops R only where its stamp is more than 8000 before the clock (the scan's stamp is at most the clock), and never in a call that judges R.
 use Rattle.std.specs.Prelude.{ℕ, suc, ◌+◌, ◌-◌, ◌*◌, ◌^◌, ◌≤◌, ◌<◌, max, ◌≡◌, Bool, true, false, cond, List, [], ◌∷◌, T, ltb, replicate, Float}
 use Rattle.ieee.specs.Doubles.{◌⊴◌, one, nothing, whole}
@@ -14,9 +14,9 @@ use Rattle.verdict.specs.declared.Verdict.TheVariants.{OverShare}
 use Rattle.flow.specs.Flow as flow
 use Rattle.verdict.specs.Verdict as verdicts
 use Rattle.flow.specs.Flow.{dims, at, each, all}
-use Rattle.fair.specs.Runs.{sum, highest, lowest, Since, clock, back, Each}
+use Rattle.fair.specs.Runs.{sum, highest, oldest, lowest, Since, clock, back, Each}
 use Rattle.fair.specs.Bounds.{stale_after, most_depth, least_depth, parts}
-use Rattle.fair.specs.Tokens.{burst, paid}
+use Rattle.fair.specs.Tokens.{Pot, pot_of, holding, ready, burst, paid}
 
 -- ---- calls
 -- a judged batch: its stamp, its cost in each dimension, how many times the level its sender wants, and whether the reserve's test passes
@@ -35,6 +35,8 @@ pub data Deed : Type 0 where
   -- a ReceiverCeiling cut, on this record or on another
   Cut : (ℕ → ℕ) → Deed
   CutThere : (ℕ → ℕ) → Deed
+  -- new rates: the stamp, and the rate and the ceiling in each dimension
+  Rates : ℕ → (ℕ → ℕ) → (ℕ → ℕ) → Deed
   -- any other call: another cut, a report, a reading
   Idle : Deed
 
@@ -43,6 +45,7 @@ stamp (Here b fill) = b.stamp
 stamp (There b credit drops) = b.stamp
 stamp (Cut c) = 0
 stamp (CutThere c) = 0
+stamp (Rates t rate ceiling) = t
 stamp Idle = 0
 
 abbrev pub Small : (ℕ → ℕ) → Type 0
@@ -53,6 +56,7 @@ Lawful (Here b fill) = (b.stamp < 2 ^ 53) × Small b.cost × ((d : ℕ) → d < 
 Lawful (There b credit drops) = (b.stamp < 2 ^ 53) × Small b.cost
 Lawful (Cut c) = Small c
 Lawful (CutThere c) = Small c
+Lawful (Rates t rate ceiling) = (t < 2 ^ 53) × ((d : ℕ) → d < dims → (1 ≤ rate d) × (rate d ≤ 2 ^ 40))
 Lawful Idle = Unit {0}
 
 -- ---- states
@@ -61,7 +65,7 @@ pub data Kept : Type 0 where
   present : Use → Kept
 
 pub record State : Type 0 where
-  pub bucket : ℕ → Bucket
+  pub pot : ℕ → Pot
   pub used : Kept
 
 abbrev pub found : Kept → ℕ → Use
@@ -73,7 +77,7 @@ priced c = each (λ (d : ℕ). whole (c d)) (replicate dims nothing)
 
 -- at a judgement: the buckets refilled, and the record's credit filled
 abbrev pub filled : State → ℕ → Batch → ℕ → Bucket
-filled s clock b d = flow.refilled (s.bucket d) (max b.stamp clock - clock)
+filled s clock b d = ready (s.pot d).bucket clock b.stamp
 
 abbrev pub credited : State → ℕ → Batch → List Float → Use
 credited s clock b fill = flow.credited (found s.used (max b.stamp clock)) (max b.stamp clock) fill
@@ -106,20 +110,25 @@ dropped true absent clock = absent
 dropped true (present u) clock = aged (ltb (u.at_ms + stale_after) clock) u
 dropped false k clock = k
 
+-- at new rates: refilled at the rate before, and turned
+abbrev pub turned : (ℕ → Pot) → ℕ → ℕ → (ℕ → ℕ) → (ℕ → ℕ) → ℕ → Pot
+turned pot clock t rate ceiling d = pot_of (flow.turned (ready (pot d).bucket clock t) (rate d) (ceiling d)) (rate d) (ceiling d)
+
 abbrev pub does : State → ℕ → Deed → State
 does s clock (Here b fill) = record {
-  bucket = λ (d : ℕ). paid (is_admitted (verdict_here s clock b fill)) (filled s clock b d) (b.cost d);
+  pot = λ (d : ℕ). holding (s.pot d) (paid (is_admitted (verdict_here s clock b fill)) (filled s clock b d) (b.cost d));
   used = present (settled (is_admitted (verdict_here s clock b fill)) (flow.tried (flow.fade_to (credited s clock b fill) (max b.stamp clock)) (priced b.cost)) b.cost);
 }
 does s clock (There b credit drops) = record {
-  bucket = λ (d : ℕ). paid (is_admitted (verdict_there s clock b credit)) (filled s clock b d) (b.cost d);
+  pot = λ (d : ℕ). holding (s.pot d) (paid (is_admitted (verdict_there s clock b credit)) (filled s clock b d) (b.cost d));
   used = dropped drops s.used (max b.stamp clock);
 }
 does s clock (Cut c) = record {
-  bucket = λ (d : ℕ). flow.returned (s.bucket d) (whole (c d));
+  pot = λ (d : ℕ). holding (s.pot d) (flow.returned (s.pot d).bucket (whole (c d)));
   used = present (flow.handed_back (found s.used clock) (priced c));
 }
-does s clock (CutThere c) = record { bucket = λ (d : ℕ). flow.returned (s.bucket d) (whole (c d)); used = s.used }
+does s clock (CutThere c) = record { pot = λ (d : ℕ). holding (s.pot d) (flow.returned (s.pot d).bucket (whole (c d))); used = s.used }
+does s clock (Rates t rate ceiling) = record { pot = λ (d : ℕ). turned s.pot clock t rate ceiling d; used = s.used }
 does s clock Idle = s
 
 abbrev pub origin : Bool → Kept
@@ -133,6 +142,7 @@ handed d (Here b fill) h = 0
 handed d (There b credit drops) h = 0
 handed d (Cut c) h = c d
 handed d (CutThere c) h = c d
+handed d (Rates t rate ceiling) h = 0
 handed d Idle h = 0
 
 abbrev pub handed_here : ℕ → Deed → List Deed → ℕ
@@ -140,6 +150,7 @@ handed_here d (Here b fill) h = 0
 handed_here d (There b credit drops) h = 0
 handed_here d (Cut c) h = c d
 handed_here d (CutThere c) h = 0
+handed_here d (Rates t rate ceiling) h = 0
 handed_here d Idle h = 0
 
 abbrev pub tried_here : ℕ → Deed → List Deed → ℕ
@@ -147,6 +158,7 @@ tried_here d (Here b fill) h = b.cost d
 tried_here d (There b credit drops) h = 0
 tried_here d (Cut c) h = 0
 tried_here d (CutThere c) h = 0
+tried_here d (Rates t rate ceiling) h = 0
 tried_here d Idle h = 0
 
 abbrev pub fill_here : ℕ → Deed → List Deed → ℕ
@@ -154,6 +166,7 @@ fill_here d (Here b fill) h = units (at fill d)
 fill_here d (There b credit drops) h = 0
 fill_here d (Cut c) h = 0
 fill_here d (CutThere c) h = 0
+fill_here d (Rates t rate ceiling) h = 0
 fill_here d Idle h = 0
 
 abbrev pub here : Deed → List Deed → Bool
@@ -161,6 +174,7 @@ here (Here b fill) h = true
 here (There b credit drops) h = false
 here (Cut c) h = false
 here (CutThere c) h = false
+here (Rates t rate ceiling) h = false
 here Idle h = false
 
 abbrev pub there : Kept → Bool
@@ -173,7 +187,7 @@ span h k = clock stamp h - clock stamp (back k h)
 
 module _ (rate ceiling : ℕ → ℕ) (overflow : Bool) where
   unfoldable pub state : List Deed → State
-  state [] = record { bucket = λ (d : ℕ). flow.opened (rate d) (ceiling d); used = origin overflow }
+  state [] = record { pot = λ (d : ℕ). pot_of (flow.opened (rate d) (ceiling d)) (rate d) (ceiling d); used = origin overflow }
   state (c ∷ h) = does (state h) (clock stamp h) c
 
   -- what is admitted in all, and on this record
@@ -182,6 +196,7 @@ module _ (rate ceiling : ℕ → ℕ) (overflow : Bool) where
   admitted d (There b credit drops) h = cond (is_admitted (verdict_there (state h) (clock stamp h) b credit)) (b.cost d) 0
   admitted d (Cut c) h = 0
   admitted d (CutThere c) h = 0
+  admitted d (Rates t x z) h = 0
   admitted d Idle h = 0
 
   abbrev pub admitted_here : ℕ → Deed → List Deed → ℕ
@@ -189,7 +204,16 @@ module _ (rate ceiling : ℕ → ℕ) (overflow : Bool) where
   admitted_here d (There b credit drops) h = 0
   admitted_here d (Cut c) h = 0
   admitted_here d (CutThere c) h = 0
+  admitted_here d (Rates t x z) h = 0
   admitted_here d Idle h = 0
+
+  -- the gap before a call counts at the rate before it
+  abbrev pub carried : ℕ → Deed → List Deed → ℕ
+  carried d c h = ((state h).pot d).rate * (clock stamp (c ∷ h) - clock stamp h)
+
+  -- the burst in force after a call
+  abbrev pub burst_after : ℕ → Deed → List Deed → ℕ
+  burst_after d c h = burst ((state (c ∷ h)).pot d).rate ((state (c ∷ h)).pot d).ceiling
 
   -- the run of suc k calls begins with a judgement of the present record
   abbrev pub Present : ℕ → List Deed → Type 0
@@ -197,9 +221,9 @@ module _ (rate ceiling : ℕ → ℕ) (overflow : Bool) where
 
   -- THE DEMAND, with T in milliseconds and fills in units of 2 ^ -1074, for every history and every run of n = suc k calls in it
   pub record Demand : Type 0 where
-    -- admitted ≤ burst + rate * T + handed back + n / 256, times 256000
+    -- admitted ≤ the burst after the first call + the sum of rate * gap + handed back + n / 256, times 256000
     pub relay : (h : List Deed) → Each Lawful h → (d : ℕ) → d < dims → (k : ℕ)
-        → 1000 * parts * sum (admitted d) (suc k) h ≤ 1000 * parts * burst (rate d) (ceiling d) + parts * (rate d * span h k) + 1000 * parts * sum (handed d) (suc k) h + 1000 * suc k
+        → 1000 * parts * sum (admitted d) (suc k) h ≤ 1000 * parts * oldest (burst_after d) k h + parts * sum (carried d) k h + 1000 * parts * sum (handed d) (suc k) h + 1000 * suc k
     -- admitted on the record ≤ (4 + T) * its highest fill + its hand-backs + n / 256, times 256000 * 2 ^ 1074
     pub share : (h : List Deed) → Each Lawful h → (d : ℕ) → d < dims → (k : ℕ)
         → 1000 * parts * sum (admitted_here d) (suc k) h * power 1074 ≤ parts * ((most_depth + span h k) * highest (fill_here d) (suc k) h) + (1000 * parts * sum (handed_here d) (suc k) h + 1000 * suc k) * power 1074

@@ -6,3 +6,4 @@ pub mod Demand
 pub mod Store
 pub mod Given
 pub mod Calls
+pub mod Changes

@@ -3,17 +3,16 @@
 use Rattle.std.specs.Prelude.{ℕ, suc, ◌+◌, ◌-◌, ◌*◌, ◌^◌, ◌≤◌, ◌<◌, max, ◌≡◌, Bool, true, false, ◌&&◌, cond, List, [], ◌∷◌, T, ltb, length, insert, Float}
 use Rattle.ieee.specs.Doubles.{◌⊴◌, one}
 use Rattle.ieee.specs.Units.{power, units, Amount}
-use Rattle.flow.specs.declared.Bucket.{Bucket}
 use Rattle.flow.specs.declared.Use.{Use}
 use Rattle.verdict.specs.declared.Verdict.{Verdict}
 use Rattle.verdict.specs.declared.Verdict.TheVariants.{OverShare}
 use Rattle.flow.specs.Flow as flow
 use Rattle.flow.specs.Flow.{dims, at}
-use Rattle.fair.specs.Runs.{sum, highest, lowest, Since, clock, back, Each}
+use Rattle.fair.specs.Runs.{sum, highest, oldest, lowest, Since, clock, back, Each}
 use Rattle.fair.specs.Bounds.{stale_after, most_depth, least_depth, parts}
-use Rattle.fair.specs.Tokens.{burst}
+use Rattle.fair.specs.Tokens.{Pot, pot_of, burst}
 use Rattle.fair.specs.Demand as demand
-use Rattle.fair.specs.Demand.{Batch, Here, Kept, absent, present, State, does, verdict_here, is_admitted, Small}
+use Rattle.fair.specs.Demand.{Batch, Here, Kept, absent, present, State, turned, does, verdict_here, is_admitted, Small}
 
 -- a sender's name, whether two are the same, and whether it goes to overflow's record at once; and the room for rows
 module _ (Name : Type 0) (same : Name → Name → Bool) (shares : Name → Bool) (room : ℕ) where
@@ -27,7 +26,7 @@ module _ (Name : Type 0) (same : Name → Name → Bool) (shares : Name → Bool
     own : Name → Key
 
   pub record Store : Type 0 where
-    pub bucket : ℕ → Bucket
+    pub pot : ℕ → Pot
     pub rows : List Row
     pub overflow : Use
 
@@ -36,16 +35,20 @@ module _ (Name : Type 0) (same : Name → Name → Bool) (shares : Name → Bool
     Judge : Name → Batch → List Float → (ℕ → Row → Bool) → ℕ → Call
     -- a ReceiverCeiling cut: the sender, the cost in each dimension, and the sender's place
     Cut : Name → (ℕ → ℕ) → ℕ → Call
+    -- new rates: the stamp, and the rate and the ceiling in each dimension
+    Rates : ℕ → (ℕ → ℕ) → (ℕ → ℕ) → Call
     Other : Call
 
   abbrev pub stamp : Call → ℕ
   stamp (Judge u b fill scanned place) = b.stamp
   stamp (Cut u c place) = 0
+  stamp (Rates t rate ceiling) = t
   stamp Other = 0
 
   abbrev pub Lawful : Call → Type 0
   Lawful (Judge u b fill scanned place) = (b.stamp < 2 ^ 53) × Small b.cost × ((d : ℕ) → d < dims → Amount (at fill d) × (units (at fill d) ≤ power 1114))
   Lawful (Cut u c place) = Small c
+  Lawful (Rates t rate ceiling) = (t < 2 ^ 53) × ((d : ℕ) → d < dims → (1 ≤ rate d) × (rate d ≤ 2 ^ 40))
   Lawful Other = Unit {0}
 
   -- ---- rows
@@ -77,7 +80,7 @@ module _ (Name : Type 0) (same : Name → Name → Bool) (shares : Name → Bool
   look (own u) s = find u s.rows
 
   abbrev pub seen : Key → Store → State
-  seen k s = record { bucket = s.bucket; used = look k s }
+  seen k s = record { pot = s.pot; used = look k s }
 
   -- the record that a sender uses
   abbrev pub resolve : Store → Name → Key
@@ -99,15 +102,16 @@ module _ (Name : Type 0) (same : Name → Name → Bool) (shares : Name → Bool
   stale scanned clock i r = scanned i r && ltb (r.used.at_ms + stale_after) clock
 
   abbrev pub after : ℕ → Key → State → Store → Store
-  after place k t s = record { bucket = t.bucket; rows = rows_with place k t.used s.rows; overflow = overflow_with k t.used s.overflow }
+  after place k t s = record { pot = t.pot; rows = rows_with place k t.used s.rows; overflow = overflow_with k t.used s.overflow }
 
   abbrev pub swept : (ℕ → Row → Bool) → Store → Store
-  swept p s = record { bucket = s.bucket; rows = sweep p s.rows; overflow = s.overflow }
+  swept p s = record { pot = s.pot; rows = sweep p s.rows; overflow = s.overflow }
 
   abbrev pub step : Store → ℕ → Call → Store
   step s k (Judge u b fill scanned place) =
       swept (stale scanned (max b.stamp k)) (after place (resolve s u) (does (seen (resolve s u) s) k (Here b fill)) s)
   step s k (Cut u c place) = after place (resolve s u) (does (seen (resolve s u) s) k (demand.Cut c)) s
+  step s k (Rates t rate ceiling) = record { pot = λ (d : ℕ). turned s.pot k t rate ceiling d; rows = s.rows; overflow = s.overflow }
   step s k Other = s
 
   abbrev pub same_key : Key → Key → Bool
@@ -119,6 +123,7 @@ module _ (Name : Type 0) (same : Name → Name → Bool) (shares : Name → Bool
   abbrev pub handed : ℕ → Call → List Call → ℕ
   handed d (Judge u b fill scanned place) h = 0
   handed d (Cut u c place) h = c d
+  handed d (Rates t rate ceiling) h = 0
   handed d Other h = 0
 
   abbrev pub span : List Call → ℕ → ℕ
@@ -126,7 +131,7 @@ module _ (Name : Type 0) (same : Name → Name → Bool) (shares : Name → Bool
 
   module _ (rate ceiling : ℕ → ℕ) where
     unfoldable pub store : List Call → Store
-    store [] = record { bucket = λ (d : ℕ). flow.opened (rate d) (ceiling d); rows = []; overflow = flow.added 0 }
+    store [] = record { pot = λ (d : ℕ). pot_of (flow.opened (rate d) (ceiling d)) (rate d) (ceiling d); rows = []; overflow = flow.added 0 }
     store (c ∷ h) = step (store h) (clock stamp h) c
 
     -- the record that a call of the sender u uses after the history h, and the answer to a judgement
@@ -139,34 +144,48 @@ module _ (Name : Type 0) (same : Name → Name → Bool) (shares : Name → Bool
     abbrev pub admitted : ℕ → Call → List Call → ℕ
     admitted d (Judge u b fill scanned place) h = cond (is_admitted (verdict u b fill h)) (b.cost d) 0
     admitted d (Cut u c place) h = 0
+    admitted d (Rates t x z) h = 0
     admitted d Other h = 0
+
+    -- the gap before a call counts at the rate before it
+    abbrev pub carried : ℕ → Call → List Call → ℕ
+    carried d c h = ((store h).pot d).rate * (clock stamp (c ∷ h) - clock stamp h)
+
+    -- the burst in force after a call
+    abbrev pub burst_after : ℕ → Call → List Call → ℕ
+    burst_after d c h = burst ((store (c ∷ h)).pot d).rate ((store (c ∷ h)).pot d).ceiling
 
     -- ---- of one record
     module _ (r : Key) where
       abbrev pub admitted_on : ℕ → Call → List Call → ℕ
       admitted_on d (Judge u b fill scanned place) h = cond (same_key r (key u h)) (cond (is_admitted (verdict u b fill h)) (b.cost d) 0) 0
       admitted_on d (Cut u c place) h = 0
+      admitted_on d (Rates t x z) h = 0
       admitted_on d Other h = 0
 
       abbrev pub handed_on : ℕ → Call → List Call → ℕ
       handed_on d (Judge u b fill scanned place) h = 0
       handed_on d (Cut u c place) h = cond (same_key r (key u h)) (c d) 0
+      handed_on d (Rates t x z) h = 0
       handed_on d Other h = 0
 
       abbrev pub tried_on : ℕ → Call → List Call → ℕ
       tried_on d (Judge u b fill scanned place) h = cond (same_key r (key u h)) (b.cost d) 0
       tried_on d (Cut u c place) h = 0
+      tried_on d (Rates t x z) h = 0
       tried_on d Other h = 0
 
       -- the fill met at a judgement of the record
       abbrev pub fill_on : ℕ → Call → List Call → ℕ
       fill_on d (Judge u b fill scanned place) h = cond (same_key r (key u h)) (units (at fill d)) 0
       fill_on d (Cut u c place) h = 0
+      fill_on d (Rates t x z) h = 0
       fill_on d Other h = 0
 
       abbrev pub judged_on : Call → List Call → Bool
       judged_on (Judge u b fill scanned place) h = same_key r (key u h)
       judged_on (Cut u c place) h = false
+      judged_on (Rates t x z) h = false
       judged_on Other h = false
 
       -- the run of suc k calls begins with a judgement of the present record
@@ -175,9 +194,9 @@ module _ (Name : Type 0) (same : Name → Name → Bool) (shares : Name → Bool
 
     -- THE DEMAND, for every history and every run of n = suc k calls in it, T in milliseconds, fills in units of 2 ^ -1074
     pub record Demand : Type 0 where
-      -- admitted ≤ burst + rate * T + handed back + n / 256, times 256000
+      -- admitted ≤ the burst after the first call + the sum of rate * gap + handed back + n / 256, times 256000
       pub relay : (h : List Call) → Each Lawful h → (d : ℕ) → d < dims → (k : ℕ)
-          → 1000 * parts * sum (admitted d) (suc k) h ≤ 1000 * parts * burst (rate d) (ceiling d) + parts * (rate d * span h k) + 1000 * parts * sum (handed d) (suc k) h + 1000 * suc k
+          → 1000 * parts * sum (admitted d) (suc k) h ≤ 1000 * parts * oldest (burst_after d) k h + parts * sum (carried d) k h + 1000 * parts * sum (handed d) (suc k) h + 1000 * suc k
       -- for each record: admitted on it ≤ (4 + T) * its highest fill + its hand-backs + n / 256, times 256000 * 2 ^ 1074
       pub share : (r : Key) (h : List Call) → Each Lawful h → (d : ℕ) → d < dims → (k : ℕ)
           → 1000 * parts * sum (admitted_on r d) (suc k) h * power 1074 ≤ parts * ((most_depth + span h k) * highest (fill_on r d) (suc k) h) + (1000 * parts * sum (handed_on r d) (suc k) h + 1000 * suc k) * power 1074

@@ -11,15 +11,15 @@ use Rattle.verdict.specs.declared.Verdict.{Verdict}
 use Rattle.verdict.specs.declared.Verdict.TheVariants as verdict
 use Rattle.head.specs.declared.Refusal.{Refusal}
 use Rattle.fair.specs.Calls as calls
-use Rattle.fair.specs.Calls.{State, Call, Judge, Event, Demand, event, events, by, span, admitted, handed, admitted_on, handed_on, fill_on, key, clock_at, want, judges, refused}
+use Rattle.fair.specs.Calls.{State, Call, Judge, Event, Demand, event, events, by, span, admitted, handed, carried, burst_after, admitted_on, handed_on, fill_on, key, clock_at, want, judges, refused}
 use Rattle.fair.specs.Runs.{sum, highest}
 use Rattle.fair.proofs.Calls.{demand_three}
 use Rattle.fair_row.specs.Replay.{Run, key_of, totals, is_over_share, over_share, ends_over_share}
 use Rattle.fair_row.proofs.Totals.{parts_at}
 use Rattle.fair_replay.specs.Bounds.{Begun, Relay, Share, Within, Spared}
 
-demand : (rate ceiling : List ℕ) (first : State) → Begun rate ceiling first → Demand rate ceiling first
-demand rate ceiling first b = subst (λ (s : State). Demand rate ceiling s) (sym b.left) (demand_three b.was b.memory rate ceiling b.bounded b.started)
+demand : (rate ceiling : List ℕ) (first : State) → Begun rate ceiling first → Demand first
+demand rate ceiling first b = subst (λ (s : State). Demand s) (sym b.left) (demand_three b.was b.memory rate ceiling b.bounded b.started)
 
 total_most : (w : ℕ → State → Call → ℕ) (n : ℕ) (es : List Event) (d : ℕ) → d < dims → get_or (totals w n es) d 0 ≤ sum (by (w d)) n es
 unfolding totals
@@ -27,13 +27,13 @@ total_most w n es d l = subst (λ (x : ℕ). x ≤ sum (by (w d)) n es) (sym (pa
 
 -- ---- the relay
 -- a bound of every run of at least one call holds of the run of n: with no call nothing is admitted
-relay_run : (a b : Event → List Event → ℕ) (top rate : ℕ) (es : List Event) (n : ℕ)
-    → ((k : ℕ) → 256000 * sum a (suc k) es ≤ top + 256 * (rate * span es k) + 256000 * sum b (suc k) es + 1000 * suc k)
-    → 256000 * sum a n es ≤ top + 256 * (rate * span es (n - 1)) + 256000 * sum b n es + 1000 * n
+relay_run : (a b burst gap : Event → List Event → ℕ) (es : List Event) (n : ℕ)
+    → ((k : ℕ) → 256000 * sum a (suc k) es ≤ 256000 * highest burst (suc k) es + 256 * sum gap k es + 256000 * sum b (suc k) es + 1000 * suc k)
+    → 256000 * sum a n es ≤ 256000 * highest burst n es + 256 * sum gap (n - 1) es + 256000 * sum b n es + 1000 * n
 unfolding sum
-relay_run a b top rate es zero f = omega arith
-relay_run a b top rate es (suc k) f =
-    subst (λ (j : ℕ). 256000 * sum a (suc k) es ≤ top + 256 * (rate * span es j) + 256000 * sum b (suc k) es + 1000 * suc k) (sym before) (f k)
+relay_run a b burst gap es zero f = omega arith
+relay_run a b burst gap es (suc k) f =
+    subst (λ (j : ℕ). 256000 * sum a (suc k) es ≤ 256000 * highest burst (suc k) es + 256 * sum gap j es + 256000 * sum b (suc k) es + 1000 * suc k) (sym before) (f k)
   where
     before : suc k - 1 ≡ k
     before = omega arith
@@ -42,7 +42,7 @@ pub relay : (first : State) (x : Run) (total : List ℕ) → total ≡ totals ad
 relay first x total e rate ceiling begun d l =
     let es = events first x.list in
     let most : get_or total d 0 ≤ sum (by (admitted d)) x.taken es = subst (λ (t : List ℕ). get_or t d 0 ≤ sum (by (admitted d)) x.taken es) (sym e) (total_most admitted x.taken es d l) in
-    let bound = relay_run (by (admitted d)) (by (handed d)) _ (get_or rate d 0) es x.taken (λ k. (demand rate ceiling first begun).relay x.list d l k) in
+    let bound = relay_run (by (admitted d)) (by (handed d)) (by (burst_after d)) (carried d) es x.taken (λ k. (demand rate ceiling first begun).relay x.list d l k) in
     omega arith
 
 -- ---- one record

@@ -8,9 +8,8 @@ use Rattle.head.specs.declared.Shedder.{Shedder}
 use Rattle.head.specs.Questions.{all_rates}
 use Rattle.judge.specs.Judging.{Memory}
 use Rattle.fair.specs.Calls as calls
-use Rattle.fair.specs.Calls.{State, Judge, Event, Key, event, events, by, span, starts, handed, handed_on, tried_on, fill_on, judged_on, Present, key, clock_at, want}
+use Rattle.fair.specs.Calls.{State, Judge, Event, Key, event, events, by, span, starts, handed, carried, burst_after, handed_on, tried_on, fill_on, judged_on, Present, key, clock_at, want}
 use Rattle.fair.specs.Runs.{sum, highest, lowest}
-use Rattle.fair.specs.Tokens.{burst}
 use Rattle.fair_row.specs.Replay.{Run, key_of}
 
 -- the list begins with what a start at these bounded rates left
@@ -25,11 +24,11 @@ pub record Begun (rate ceiling : List ℕ) (first : State) : Type 0 where
 abbrev pub lasts : State → Run → ℕ
 lasts first x = span (events first x.list) (x.taken - 1)
 
--- admitted cost ≤ burst + rate * T + handed back + n / 256: `total` is what `replay` returned in each dimension, what was handed back and n are exact
+-- admitted cost ≤ the largest burst + over the run's gaps the sum of rate * length + handed back + n / 256: `total` is what `replay` returned in each dimension, the others are exact
 abbrev pub Relay : State → Run → List ℕ → Type 0
 Relay first x total = (rate ceiling : List ℕ) → Begun rate ceiling first → (d : ℕ) → d < dims
     → 256000 * slice_index total d
-    ≤ 256000 * burst (slice_index rate d) (slice_index ceiling d) + 256 * (slice_index rate d * lasts first x) + 256000 * sum (by (handed d)) x.taken (events first x.list) + 1000 * x.taken
+    ≤ 256000 * highest (by (burst_after d)) x.taken (events first x.list) + 256 * sum (carried d) (x.taken - 1) (events first x.list) + 256000 * sum (by (handed d)) x.taken (events first x.list) + 1000 * x.taken
 
 -- on the watched record: admitted cost ≤ (4 + T) * its highest fill + its hand-backs + n / 256, fills in units of 2 ^ -1074; what was handed back and n are exact
 abbrev pub Share : unit.Unit → State → Run → List ℕ → Type 0

@@ -1,4 +1,4 @@
--- What a judgement, a cut or a reading leaves and amounts to. Assumes nothing.
+-- What a judgement, a cut, new rates or a reading leaves and amounts to. Assumes nothing.
 use mathlib.Core.Path.{◌≡◌, refl, sym, ap, ◌∙◌}
 use mathlib.Core.Bool.{Bool, true, false, cond}
 use mathlib.Core.List.{List}
@@ -16,7 +16,7 @@ use Rattle.head.specs.declared.Refusal.{Refusal}
 use Rattle.store.specs.declared.Cause.{Cause}
 use Rattle.store.specs.declared.Cause.TheVariants as cause
 use Rattle.head.specs.declared.Shedder.{Shedder}
-use Rattle.head.specs.Answers.{judge_number, cut_number}
+use Rattle.head.specs.Answers.{judge_number, cut_number, rates_number}
 use Rattle.store.specs.Store.{Rows}
 use Rattle.wants.specs.Wants.{Hist}
 use Rattle.judge.specs.declared.Judgement.{Judgement}
@@ -24,9 +24,11 @@ use Rattle.cut.specs.declared.Cutting.{Cutting}
 use Rattle.judge.specs.Judging as judging
 use Rattle.judge.specs.Judging.{Memory, memory}
 use Rattle.cut.specs.Cutting as cutting
+use Rattle.rates.specs.declared.Changing.{Changing}
+use Rattle.rates.specs.Rates as rating
 use Rattle.sender.specs.declared.Unit as unit
 use Rattle.fair.specs.Calls as calls
-use Rattle.fair.specs.Calls.{State, Call, Judge, Cut, Read}
+use Rattle.fair.specs.Calls.{State, Call, Judge, Cut, Rates, Read}
 use Rattle.fair_row.specs.declared.Turned.{Turned}
 use Rattle.fair_row.specs.Replay.{Turns, is_admitted, is_over_share, is_hand_back, counted_if, amounts, key_of, on_watched, empty}
 use Rattle.fair_row.proofs.Watched.{watched_is}
@@ -112,6 +114,21 @@ cut_turns h m l u c cost j m' l' back xs x ec e en eb ex watched g =
       admitted = none calls.admitted s (Cut u c cost) (λ d. refl);
       handed = ex ∙ ap (λ (b : Bool). counted_if b cost) eb ∙ hands c cost (cost_parts cost ec);
       admitted_on = λ z. none (calls.admitted_on (key_of watched)) s (Cut u c cost) (λ d. refl);
+      over_share = refl;
+    }
+
+-- ---- new rates leave the memory as it was, and amount to nothing
+pub rates_turns : (h : Shedder) (m : Rows) (l : List (List ℕ)) (rate ceiling : List ℕ) (t : ℕ) (j : Changing) (x : ℕ) → rating.changing j ≡ rating.set_rates h m l rate ceiling t → x ≡ rates_number j.answer
+    → (watched : unit.Unit) (g : Hist) → Turns watched (calls.state_of h (memory m g l)) (Rates rate ceiling t) (empty j.head x) (calls.state_of j.head (memory m g l))
+rates_turns h m l rate ceiling t j x e en watched g =
+    let s = calls.state_of h (memory m g l) in
+    let c = Rates rate ceiling t in
+    record {
+      left = ap (λ (y : rating.Changed). calls.state_of y.head (memory m g l)) e;
+      number = en ∙ ap (λ (y : rating.Changed). rates_number y.answer) e;
+      admitted = none calls.admitted s c (λ d. refl);
+      handed = none calls.handed s c (λ d. refl);
+      admitted_on = λ z. none (calls.admitted_on (key_of watched)) s c (λ d. refl);
       over_share = refl;
     }
 

@@ -22,7 +22,7 @@ use Rattle.store.specs.declared.lent.LentRead.{LentRead}
 use Rattle.wants.specs.declared.Histogram.{Histogram}
 use Rattle.head.specs.Bits.{SameButNanBits}
 use Rattle.fair.specs.Calls as calls
-use Rattle.fair.specs.Calls.{State, Call, Event, Key, Judge, Cut, Read, Reading, Report, ReportBeside, Count, Visited, Level, Rate, IsBounded, by}
+use Rattle.fair.specs.Calls.{State, Call, Event, Key, Judge, Cut, Rates, Read, Reading, Report, ReportBeside, Count, Visited, Level, Rate, IsBounded, by}
 use Rattle.fair.specs.Runs.{sum}
 use Rattle.fair_row.specs.declared.Call as given
 use Rattle.fair_row.specs.declared.Call.TheVariants as call
@@ -55,6 +55,7 @@ reading_of reading.IsBounded page = IsBounded
 unfoldable pub call_of : given.Call → List ℕ → Call
 call_of (call.Judge u cost t) page = Judge u cost t
 call_of (call.Cut u c cost) page = Cut u c cost
+call_of (call.Rates rate ceiling t) page = Rates rate ceiling t
 call_of (call.Read q) page = Read (reading_of q page)
 
 -- ---- the buffer
@@ -74,6 +75,7 @@ read_page s IsBounded page = page
 abbrev pub page_after : State → Call → List ℕ → List ℕ
 page_after s (Judge u cost t) page = page
 page_after s (Cut u c cost) page = page
+page_after s (Rates rate ceiling t) page = page
 page_after s (Read q) page = read_page s q page
 
 -- ---- the list
@@ -145,6 +147,7 @@ totals w n es = upto (λ (d : ℕ). sum (by (w d)) n es % 2 ^ 64) dims (replicat
 abbrev pub over_share : State → Call → Bool
 over_share s (Judge u cost t) = is_over_share (calls.judges s u cost t).answer
 over_share s (Cut u c cost) = false
+over_share s (Rates rate ceiling t) = false
 over_share s (Read q) = false
 
 -- and whether the last call of the run is one

@@ -18,7 +18,7 @@ use head::{Cause, Refusal, Shedder};
 use own::on_watched;
 use read::answer_reading;
 use sender::Unit;
-use store::Lent;
+use store::{Lent, LentRead};
 use verdict::Verdict;
 use wants::Histogram;
 
@@ -48,6 +48,11 @@ pub enum Call {
         unit: Unit,
         cause: Cause,
         cost: [u64; DIMS],
+    },
+    Rates {
+        rate: [u64; DIMS],
+        ceiling: [u64; DIMS],
+        stamp: u64,
     },
     Read(Reading),
 }
@@ -154,6 +159,20 @@ fn cut_turn(
     Turned { handed, ..none }
 }
 
+fn rates_turn(
+    head: Shedder,
+    lent: &LentRead<'_>,
+    rate: [u64; DIMS],
+    ceiling: [u64; DIMS],
+    stamp: u64,
+) -> Turned
+    ensures { (watched : sent.Unit) (g : Hist) → replay.Turns watched (replay.held_read g head lent.now)
+        (calls.Rates rate ceiling stamp) result (replay.held_read g result.head lent.now) }
+{
+    let changing = rates::set_rates(head, lent, rate, ceiling, stamp);
+    Turned::empty(changing.head, answer_number(changing.answer))
+}
+
 // One call; out is the buffer of a report.
 #[tactic(auto, unfolding(crate::specs::Replay::call_of))]
 pub fn turn(
@@ -176,6 +195,11 @@ pub fn turn(
             judge_turn(head, lent, histogram, watched, unit, cost, stamp)
         }
         Call::Cut { unit, cause, cost } => cut_turn(head, lent, unit, cause, cost),
+        Call::Rates {
+            rate,
+            ceiling,
+            stamp,
+        } => rates_turn(head, &lent.read(), rate, ceiling, stamp),
         Call::Read(reading) => {
             let number = answer_reading(head, &lent.read(), reading, out);
             Turned::empty(head, number)
