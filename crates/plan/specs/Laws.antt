@@ -41,10 +41,10 @@ Pairs = (ws : List (List ℕ)) → (apart ws ≡ true)
 abbrev pub Quick : Type 0
 Quick = (ws : List (List ℕ)) → ascending ws ≡ true → windows_asked ws ≡ 0
 
--- at most one of them holds a minute, so that their order does not matter: the plan has the rates of whichever window holds the minute
-abbrev pub Single : Type 0
-Single = (ws : List (List ℕ)) → windows_asked ws ≡ 0 → (i j m : ℕ) → i < length ws → j < length ws → holds (window_at ws i) m ≡ true → holds (window_at ws j) m ≡ true → i ≡ j
+-- at most one of them holds a minute, so that their order does not matter: the plan has the rates of whichever window holds the clock's minute
+pub record Alone (ws : List (List ℕ)) : Type 0 where
+  pub single : (i j m : ℕ) → i < length ws → j < length ws → holds (window_at ws i) m ≡ true → holds (window_at ws j) m ≡ true → i ≡ j
+  pub whichever : (outside : List ℕ) (clock i : ℕ) → i < length ws → holds (window_at ws i) (minute clock) ≡ true → planned outside (length ws) ws clock ≡ rates_of (window_at ws i)
 
-abbrev pub Whichever : Type 0
-Whichever = (outside : List ℕ) (ws : List (List ℕ)) (clock i : ℕ) → windows_asked ws ≡ 0 → i < length ws → holds (window_at ws i) (minute clock) ≡ true
-    → planned outside (length ws) ws clock ≡ rates_of (window_at ws i)
+abbrev pub Single : Type 0
+Single = (ws : List (List ℕ)) → windows_asked ws ≡ 0 → Alone ws

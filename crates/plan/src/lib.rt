@@ -92,8 +92,9 @@ fn first_holding(outside: [u64; DIMS], windows: &[Window], minute: u64) -> [u64;
 
 // ---- the questions
 
+// Whether the rates bound nothing.
 #[tactic(auto, unfolding(crate::specs::Plan::is_unbounded))]
-fn is_unbounded(rates: [u64; DIMS]) -> bool
+pub fn is_unbounded(rates: [u64; DIMS]) -> bool
     ensures { result ≡ hours.is_unbounded rates }
 {
     flow::each_passes(|d| rates[d] == UNBOUNDED)
@@ -106,8 +107,9 @@ fn is_bounded(rates: [u64; DIMS]) -> bool
     flow::each_passes(|d| 1 <= rates[d] && rates[d] <= RATE_MOST)
 }
 
+// Whether a window's rates are all unbounded, or each from 1 to the highest.
 #[tactic(auto, unfolding(crate::specs::Plan::window_rates))]
-fn window_rates(rates: [u64; DIMS]) -> bool
+pub fn window_rates(rates: [u64; DIMS]) -> bool
     ensures { result ≡ hours.window_rates rates }
 {
     is_unbounded(rates) || is_bounded(rates)
