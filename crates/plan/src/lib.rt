@@ -71,10 +71,13 @@ fn holds(window: Window, minute: u64) -> bool
 
 // The rates of the first of so many windows that holds the clock's minute, else those outside. No more windows than there are places
 // are read.
-#[tactic(auto, unfolding(crate::specs::Plan::planned))]
+#[tactic(auto, using(crate::proofs::Turns::none_planned), unfolding(crate::specs::Plan::planned))]
 pub fn planned(outside: [u64; DIMS], windows: usize, plan: &Plan, clock: u64) -> [u64; DIMS]
     ensures { result ≡ hours.planned outside windows plan.now clock }
 {
+    if windows == 0 {
+        return outside;
+    }
     first_holding(outside, &plan[..windows.min(WINDOWS)], minute(clock))
 }
 
@@ -193,24 +196,25 @@ fn none_unbounded(windows: &[Window]) -> bool
 fn follows(last: u64, window: Window) -> bool
     ensures { result ≡ hours.follows last window }
 {
-    (last <= window[0]) & (window[0] < window[1]) & is_bounded(rates_of(window))
+    last <= window[0] && window[0] < window[1] && is_bounded(rates_of(window))
 }
 
-// Yes at once for windows in ascending order that pass. No jump but the loop's depends on a window.
-#[tactic(auto, using(crate::proofs::Turns::all_none, crate::proofs::Turns::all_next, crate::proofs::Turns::end_next), unfolding(crate::specs::Plan::ascending))]
+// Yes at once for windows in ascending order that pass: one pass, of which no jump is taken but the loop's.
+#[tactic(auto, using(crate::proofs::Turns::all_none, crate::proofs::Turns::all_next, crate::proofs::Turns::end_next, crate::proofs::Turns::ascending_stops), unfolding(crate::specs::Plan::ascending))]
 fn ascending(windows: &[Window]) -> bool
     ensures { result ≡ hours.ascending windows.now }
 {
     if windows.len() > WINDOWS {
         return false;
     }
-    let mut passes = true;
     let mut last = 0;
     for window in windows {
-        passes &= follows(last, *window);
+        if !follows(last, *window) {
+            return false;
+        }
         last = window[1];
     }
-    passes & (last <= WEEK)
+    last <= WEEK
 }
 
 // The questions one by one.
