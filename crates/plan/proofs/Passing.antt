@@ -12,18 +12,18 @@ use Rattle.plan.specs.Plan.{fault_number, window_at, first_of, end_of, rates_of,
 use Rattle.plan.specs.Laws.{Passes}
 
 -- ---- rates
-bounded_at : (r : List ℕ) (d : ℕ) → d < 2 → is_bounded r ≡ true → (1 ≤ get_or r d 0) × (get_or r d 0 ≤ 2 ^ 40)
+pub bounded_at : (r : List ℕ) (d : ℕ) → d < 2 → is_bounded r ≡ true → (1 ≤ get_or r d 0) × (get_or r d 0 ≤ 2 ^ 40)
 unfolding is_bounded
 bounded_at r d h e =
     let a = and_parts (leb 1 (get_or r d 0)) (leb (get_or r d 0) RATE_MOST) (all-at (λ d. leb 1 (get_or r d 0) && leb (get_or r d 0) RATE_MOST) dims d h e) in
     (leb-true 1 (get_or r d 0) a.0, leb-true (get_or r d 0) RATE_MOST a.1)
 
-bounded_of : (r : List ℕ) → ((d : ℕ) → d < 2 → (1 ≤ get_or r d 0) × (get_or r d 0 ≤ 2 ^ 40)) → is_bounded r ≡ true
+pub bounded_of : (r : List ℕ) → ((d : ℕ) → d < 2 → (1 ≤ get_or r d 0) × (get_or r d 0 ≤ 2 ^ 40)) → is_bounded r ≡ true
 unfolding is_bounded
 bounded_of r f = all_of (λ d. leb 1 (get_or r d 0) && leb (get_or r d 0) RATE_MOST) dims
     (λ d h. and_from (leb 1 (get_or r d 0)) (leb (get_or r d 0) RATE_MOST) (le-leb 1 (get_or r d 0) (f d h).0) (le-leb (get_or r d 0) RATE_MOST (f d h).1))
 
-not_unbounded : (r : List ℕ) → is_bounded r ≡ true → is_unbounded r ≡ false
+pub not_unbounded : (r : List ℕ) → is_bounded r ≡ true → is_unbounded r ≡ false
 unfolding is_unbounded
 not_unbounded r e =
     let b = bounded_at r 0 (omega arith) e in
@@ -84,7 +84,7 @@ whole_bounded r e n = elim (or_cases (is_unbounded r) (is_bounded r) e) [
   | inr x ↦ x
 ]
 
-bounded_whole : (r : List ℕ) → is_bounded r ≡ true → window_rates r ≡ true
+pub bounded_whole : (r : List ℕ) → is_bounded r ≡ true → window_rates r ≡ true
 unfolding window_rates
 bounded_whole r e = or_right (is_unbounded r) (is_bounded r) e
 

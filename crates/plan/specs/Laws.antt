@@ -1,7 +1,8 @@
 -- What holds of the minute and of windows that pass: laws on the definitions. Statements only; proofs/Laws.antt proves them. A law writes its numbers out, so that it refuses a
 -- definition with a wrong one, whatever the code does.
-use Rattle.std.specs.Prelude.{◌≡◌, ℕ, ◌+◌, ◌*◌, ◌^◌, ◌-◌, ◌<◌, ◌≤◌, ◌≢◌, ◌↔◌, true, List, length, get_or}
-use Rattle.plan.specs.Plan.{minute, window_at, first_of, end_of, rates_of, holds, planned, apart, windows_asked, ascending}
+use Rattle.std.specs.Prelude.{◌≡◌, ℕ, ◌+◌, ◌*◌, ◌^◌, ◌-◌, ◌<◌, ◌≤◌, ◌≢◌, ◌↔◌, true, List, length, take, get_or}
+use Rattle.flow.specs.Flow.{dims}
+use Rattle.plan.specs.Plan.{minute, window_at, first_of, end_of, rates_of, holds, planned, is_unbounded, window_rates, apart, windows_asked, plan_whole, ascending}
 
 -- ---- the minute
 -- it is one of the week's, the same a week later, and the next a minute later, but at the week's end, which is Monday 00:00
@@ -12,7 +13,7 @@ pub record Minutes (clock : ℕ) : Type 0 where
   pub next : minute clock < 10079 → minute (clock + 60000) ≡ minute clock + 1
 
 -- 1970-01-01 was a Thursday: that minute, the last of that week, Monday 1970-01-05 00:00, and the last stamp of all
-pub record Cases : Type 0 where
+pub record Days : Type 0 where
   pub thursday : minute 0 ≡ 3 * 1440
   pub sunday : minute 345599999 ≡ 10079
   pub monday : minute 345600000 ≡ 0
@@ -48,3 +49,24 @@ pub record Alone (ws : List (List ℕ)) : Type 0 where
 
 abbrev pub Single : Type 0
 Single = (ws : List (List ℕ)) → windows_asked ws ≡ 0 → Alone ws
+
+-- ---- a relay whose plan passes
+-- the rates that it sets are rates as at a start, and unbounded exactly if those outside are
+pub record Lawful (outside rates : List ℕ) : Type 0 where
+  pub held : window_rates rates ≡ true
+  pub unbounded : is_unbounded rates ≡ is_unbounded outside
+
+abbrev pub Sets : Type 0
+Sets = (outside : List ℕ) (windows : ℕ) (plan : List (List ℕ)) (clock : ℕ) → window_rates outside ≡ true → plan_whole outside windows plan ≡ true → Lawful outside (planned outside windows plan clock)
+
+-- they have a part for each dimension
+abbrev pub Parts : Type 0
+Parts = (outside : List ℕ) (windows : ℕ) (plan : List (List ℕ)) (clock : ℕ) → length outside ≡ dims → length (planned outside windows plan clock) ≡ dims
+
+-- neither they nor the questions read the rows behind the windows
+pub record Front (windows : ℕ) (p q : List (List ℕ)) : Type 0 where
+  pub rates : (outside : List ℕ) (clock : ℕ) → planned outside windows p clock ≡ planned outside windows q clock
+  pub whole : (outside : List ℕ) → plan_whole outside windows p ≡ plan_whole outside windows q
+
+abbrev pub Behind : Type 0
+Behind = (windows : ℕ) (p q : List (List ℕ)) → take windows p ≡ take windows q → Front windows p q
