@@ -118,7 +118,7 @@ pub fn window_rates(rates: [u64; DIMS]) -> bool
     is_unbounded(rates) || is_bounded(rates)
 }
 
-// 1: of each window, also behind the 32nd.
+// Question 1 of each window, also behind the 32nd.
 #[tactic(auto, using(crate::proofs::Turns::all_none, crate::proofs::Turns::all_next), unfolding(crate::specs::Plan::rates_held))]
 fn rates_held(windows: &[Window]) -> bool
     ensures { result ≡ hours.rates_held windows.now }
@@ -137,7 +137,7 @@ fn is_span(window: Window) -> bool
     window[0] < window[1] && window[1] <= WEEK
 }
 
-// 11.
+// Question 11: no more windows than a plan has places, and each begins before its end, which is in the week.
 #[tactic(auto, using(crate::proofs::Turns::all_none, crate::proofs::Turns::all_next), unfolding(crate::specs::Plan::in_range))]
 fn in_range(windows: &[Window]) -> bool
     ensures { result ≡ hours.in_range windows.now }
@@ -149,6 +149,7 @@ fn in_range(windows: &[Window]) -> bool
     passes
 }
 
+// Two that touch do not.
 #[tactic(auto, unfolding(crate::specs::Plan::overlap))]
 fn overlap(v: Window, w: Window) -> bool
     ensures { result ≡ hours.overlap v w }
@@ -168,7 +169,7 @@ fn is_apart(windows: &[Window], from: Window) -> bool
     passes
 }
 
-// 12: each window and those before it.
+// Question 12 of all pairs: each window and those before it.
 #[tactic(auto, using(crate::proofs::Turns::all_none, crate::proofs::Turns::all_next), unfolding(crate::specs::Plan::apart))]
 fn apart(windows: &[Window]) -> bool
     ensures { result ≡ hours.apart windows.now }
@@ -180,7 +181,7 @@ fn apart(windows: &[Window]) -> bool
     passes
 }
 
-// 10.
+// Question 10: no window is unbounded.
 #[tactic(auto, using(crate::proofs::Turns::all_none, crate::proofs::Turns::all_next), unfolding(crate::specs::Plan::none_unbounded))]
 fn none_unbounded(windows: &[Window]) -> bool
     ensures { result ≡ hours.none_unbounded windows.now }
@@ -192,6 +193,7 @@ fn none_unbounded(windows: &[Window]) -> bool
     passes
 }
 
+// Whether a bounded window begins at the end of the one before or later.
 #[tactic(auto, unfolding(crate::specs::Plan::follows))]
 fn follows(last: u64, window: Window) -> bool
     ensures { result ≡ hours.follows last window }
@@ -217,7 +219,7 @@ fn ascending(windows: &[Window]) -> bool
     last <= WEEK
 }
 
-// The questions one by one.
+// The questions one by one: of each window by itself, then pair by pair.
 #[tactic(auto, unfolding(crate::specs::Plan::windows_asked, crate::specs::Plan::number_of, crate::specs::Plan::fault_number))]
 fn asked_singly(windows: &[Window]) -> Result<(), Fault>
     ensures { hours.number_of result ≡ hours.windows_asked windows.now }
@@ -237,7 +239,7 @@ fn asked_singly(windows: &[Window]) -> Result<(), Fault>
     Ok(())
 }
 
-// The first question that any number of windows fails: 1 of each window's rates, 11, 12, 10.
+// The first question that windows of any number fail, in the order 1, 11, 12, 10. Windows in ascending order are told in one pass.
 #[tactic(auto, using(crate::proofs::Passing::quick_passes))]
 pub fn windows_asked(windows: &[Window]) -> Result<(), Fault>
     ensures { hours.number_of result ≡ hours.windows_asked windows.now }
