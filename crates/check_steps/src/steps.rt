@@ -425,8 +425,10 @@ fn rates_refused(steps: &mut Vec<Step>) -> Result<(), AllocError> {
     let rates = Step::refused(Call::Rates);
     steps.extend_from_slice(&[rates.fault(Fault::RateZero), rates.fault(Fault::OffsetsFall)])?;
     lent_unfit(steps, Call::Rates)?;
+    let above = rates.amounts(0, 1).stamp(STAMP_END).lent(6, 4, 4, 3);
     steps.extend_from_slice(&[
-        rates.amounts(0, 1).stamp(STAMP_END).lent(6, 4, 4, 3),
+        above.fault(Fault::RateZero),
+        above,
         rates.amounts(0, 1).stamp(STAMP_END),
         rates.amounts(1, RATE_MOST + 1),
         rates.amounts(u64::MAX, 1),
