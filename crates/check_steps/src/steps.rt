@@ -423,7 +423,10 @@ fn readings_refused(steps: &mut Vec<Step>) -> Result<(), AllocError> {
 // Questions 3, 4, 1, 6 and 10, the last also of a relay that is not bounded.
 fn rates_refused(steps: &mut Vec<Step>) -> Result<(), AllocError> {
     let rates = Step::refused(Call::Rates);
-    steps.extend_from_slice(&[rates.fault(Fault::RateZero), rates.fault(Fault::OffsetsFall)])?;
+    steps.extend_from_slice(&[
+        rates.fault(Fault::RateZero),
+        rates.fault(Fault::OffsetsFall),
+    ])?;
     lent_unfit(steps, Call::Rates)?;
     let above = rates.amounts(0, 1).stamp(STAMP_END).lent(6, 4, 4, 3);
     steps.extend_from_slice(&[
