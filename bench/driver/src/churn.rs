@@ -8,23 +8,24 @@ use crate::{sender, used, Lcg, SOURCES};
 /// Seconds from a sender's batch to its next.
 const PAUSE: u64 = 20;
 
-/// The senders in their order, each with its batch; the round says when.
+/// The senders in their order, each with its batch; the round says when, and `pause` is the seconds of a round.
 struct Round {
+    pause: u64,
     units: Vec<Unit>,
     words: Vec<Words>,
     costs: Vec<[u64; 2]>,
 }
 
 impl Round {
-    fn new(senders: usize) -> Self {
+    fn new(senders: usize, pause: u64) -> Self {
         let mut lcg = Lcg(senders as u64);
         let (units, words) = (0..senders).map(|i| sender(i, &mut lcg)).unzip();
         let costs = (0..senders).map(|_| [1 + lcg.below(4), 100 + lcg.below(901)]).collect();
-        Self { units, words, costs }
+        Self { pause, units, words, costs }
     }
 
     fn stamp(&self, round: u64, i: usize) -> u64 {
-        1_000 * PAUSE * (1 + round) + i as u64 * 1_000 * PAUSE / self.units.len() as u64
+        1_000 * self.pause * (1 + round) + i as u64 * 1_000 * self.pause / self.units.len() as u64
     }
 }
 
@@ -135,12 +136,12 @@ fn hash(prefix: u32) -> u64 {
     std::iter::once(1).chain(number.to_be_bytes()).fold(14695981039346656037, |h, byte| (h ^ u64::from(byte)).wrapping_mul(1099511628211))
 }
 
-/// So many groups of one table and one tag, judged in turn: the nanoseconds of one call.
+/// So many groups of one table and one tag (of all V6 groups some 65,700 have it), judged in turn: the nanoseconds of one call.
 fn chosen(n: usize, turns: usize) -> [f64; 2] {
     let groups = (0..).filter(|prefix| hash(*prefix) & (63 << 58 | 1_023) == 0);
     let (units, words): (Vec<Unit>, Vec<Words>) =
         groups.take(n).map(|p| (Unit::Group(Some(Group::V6(p))), Words { kind: 2, a: u64::from(p), ..Words::default() })).unzip();
-    let r = Round { units, words, costs: vec![[1, 100]; n] };
+    let r = Round { pause: PAUSE, units, words, costs: vec![[1, 100]; n] };
     let mut two = Two::new();
     let mut best = [f64::INFINITY; 2];
     for _ in 0..turns {
@@ -163,7 +164,7 @@ pub fn table() {
     println!("| Senders, each every {PAUSE} s | records alive | Rust, ns a call | here, ns a call | here / Rust | 99.9 % of calls, Rust and here, µs | longest call, Rust and here, µs | all silent: longest, Rust and here, µs |");
     println!("|---|---|---|---|---|---|---|---|");
     for (senders, rounds) in [(2_400, 40), (39_000, 8), (300_000, 3)] {
-        let r = Round::new(senders);
+        let r = Round::new(senders, PAUSE);
         let (ns, alive) = mean(&r, rounds);
         let [top, rare] = longest(&r, 3);
         let quiet = silent(&r, 3);
@@ -173,9 +174,16 @@ pub fn table() {
         );
     }
     println!();
+    println!("| Senders, each every second | 99.9 % of calls, Rust and here, µs | longest call, Rust and here, µs |");
+    println!("|---|---|---|");
+    for senders in [16_384, 131_072] {
+        let [top, rare] = longest(&Round::new(senders, 1), 3);
+        println!("| {senders} | {:.1}, {:.1} | {:.0}, {:.0} |", rare[0] / 1e3, rare[1] / 1e3, top[0] / 1e3, top[1] / 1e3);
+    }
+    println!();
     println!("| Groups of one tag | Rust, ns a call | here, ns a call |");
     println!("|---|---|---|");
-    for n in [256, 4_096, 32_768] {
+    for n in [256, 4_096, 65_536] {
         let ns = chosen(n, 5);
         println!("| {n} | {:.0} | {:.0} |", ns[0], ns[1]);
     }
