@@ -20,13 +20,27 @@ fn entry(table: &[u64], p: u64) -> f64
     f64::from_bits(table[p as usize])
 }
 
+// Entry r of A: the double nearest exp(-r / WINDOW_MS).
+fn short(r: u64) -> f64
+    requires { r < spec.WINDOW_MS }
+    ensures { result ≡ spec.nearest r spec.WINDOW_MS }
+{
+    entry(&tables::A, r)
+}
+
+// Entry q of B: the double nearest exp(-q).
+fn far(q: u64) -> f64
+    requires { q < spec.long }
+    ensures { result ≡ spec.nearest q 1 }
+{
+    entry(&tables::B, q)
+}
+
 pub fn fade(d: u64) -> f64
     ensures { result ≡ spec.fade d }
 {
     if d < tables::END {
-        let short = entry(&tables::A, d % WINDOW_MS);
-        let far = entry(&tables::B, d / WINDOW_MS);
-        short * far
+        short(d % WINDOW_MS) * far(d / WINDOW_MS)
     } else {
         0.0
     }

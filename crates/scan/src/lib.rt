@@ -6,13 +6,13 @@ ghost use Rattle.sender.specs.Sender as sender;
 ghost use Rattle.head.specs.Questions as asked;
 ghost use Rattle.parts.specs.Held.{held, SameParts, Sized};
 ghost use Rattle.shifting.specs.Offsets.{Whole};
-ghost use Rattle.wants.specs.Held.{wants_held, SameArrays};
+ghost use Rattle.wants.specs.Held.{wants_held, wants_read, SameArrays};
 ghost use Rattle.scan.specs.Scanning as scanning;
 
 use head::Shedder;
 use parts::Parts;
 use sender::TABLES;
-use wants::Histogram;
+use wants::{Histogram, HistogramRead};
 
 // How often the level is found again: a scan begins every quarter of this.
 pub const ACTIVE_MS: u64 = 2000;
@@ -75,8 +75,8 @@ fn again(h: &mut Shedder, parts: &mut Parts<'_>, histogram: &mut Histogram<'_>)
     }
 }
 
-fn ended(h: Shedder, histogram: &Histogram<'_>) -> Shedder
-    ensures { result ≡ scanning.ended h (wants_held histogram.now) }
+fn ended(h: Shedder, histogram: &HistogramRead<'_>) -> Shedder
+    ensures { result ≡ scanning.ended h (wants_read histogram.now) }
 {
     if h.scan.remaining == 0 {
         scan_trim::trimmed(h, histogram)
@@ -139,5 +139,5 @@ pub fn scanned(
     }
     visit(&mut h, parts, histogram);
     again(&mut h, parts, histogram);
-    ended(h, histogram)
+    ended(h, &histogram.read())
 }

@@ -2,12 +2,12 @@
 #![tactic(auto)]
 
 ghost use Rattle.std.specs.Prelude.{◌≡◌};
-ghost use Rattle.wants.specs.Held.{wants_held};
+ghost use Rattle.wants.specs.Held.{wants_read};
 ghost use Rattle.scan_trim.specs.Trimming as trimming;
 
 use flow::DIMS;
 use head::{Scan, Shedder};
-use wants::Histogram;
+use wants::HistogramRead;
 
 // The most that the trim moves the level in one scan, and the least that it leaves of it.
 pub const TRIM_STEP: f64 = 0.05;
@@ -44,8 +44,8 @@ fn trim_of(open: f64, trim: f64, rate: f64, gain: f64, span: f64) -> f64
 }
 
 #[tactic(auto, unfolding(crate::specs::Trimming::opens))]
-fn opens(histogram: &Histogram<'_>, rate: [f64; DIMS]) -> [f64; DIMS]
-    ensures { result ≡ trimming.opens (wants_held histogram.now) rate }
+fn opens(histogram: &HistogramRead<'_>, rate: [f64; DIMS]) -> [f64; DIMS]
+    ensures { result ≡ trimming.opens (wants_read histogram.now) rate }
 {
     flow::per_dim(|d| histogram.level(d, rate[d]))
 }
@@ -81,8 +81,8 @@ fn span_of(clock: u64, read_ms: u64) -> f64
 // The scan is over: the level found, its trim, and the level stored. Its locals stay: of an array stored straight from a field
 // the check makes no proof.
 #[tactic(auto, unfolding(crate::specs::Trimming::trimmed))]
-pub fn trimmed(h: Shedder, histogram: &Histogram<'_>) -> Shedder
-    ensures { result ≡ trimming.trimmed h (wants_held histogram.now) }
+pub fn trimmed(h: Shedder, histogram: &HistogramRead<'_>) -> Shedder
+    ensures { result ≡ trimming.trimmed h (wants_read histogram.now) }
 {
     let rate = flow::numbers(h.flow.rate);
     let open = opens(histogram, rate);

@@ -2,10 +2,14 @@
 use Rattle.std.specs.Prelude.{◌≡◌}
 use Rattle.wants.specs.Wants.{Hist, hist}
 use Rattle.wants.specs.declared.Histogram.{Histogram}
+use Rattle.wants.specs.declared.HistogramRead.{HistogramRead}
 
 -- the counts and sums lent
 abbrev pub wants_held : Histogram → Hist
 wants_held h = hist h.counts.now h.sums.now
+
+abbrev pub wants_read : HistogramRead → Hist
+wants_read h = hist h.counts.now h.sums.now
 
 -- the same arrays
 pub record SameArrays (was is : Histogram) : Type 0 where

@@ -24,8 +24,15 @@ pub struct Histogram<'a> {
     pub sums: &'a mut Sums,
 }
 
+// The same arrays lent to a call that only reads them.
+#[derive(Clone, Copy)]
+pub struct HistogramRead<'a> {
+    pub counts: &'a Counts,
+    pub sums: &'a Sums,
+}
+
 impl Histogram<'_> {
-    ghost use Rattle.wants.specs.Held.{wants_held, SameArrays};
+    ghost use Rattle.wants.specs.Held.{wants_held, wants_read, SameArrays};
 
     // As a scan begins: no wants.
     #[tactic(auto, unfolding(crate::specs::Wants::cleared))]
@@ -49,6 +56,28 @@ impl Histogram<'_> {
         self.sums[dim][b] += want;
     }
 
+    // The arrays lent on to a call that only reads them.
+    pub fn read(&self) -> HistogramRead<'_>
+        ensures { wants_read result ≡ wants_held self.now }
+    {
+        HistogramRead {
+            counts: &*self.counts,
+            sums: &*self.sums,
+        }
+    }
+
+    // The water level of a max-min fair division of the rate among the units counted, as the arrays that are read have it.
+    pub fn level(&self, dim: usize, rate: f64) -> f64
+        requires { dim < dims }
+        ensures { result ≡ wants.level (wants_held self.now) dim rate }
+    {
+        self.read().level(dim, rate)
+    }
+}
+
+impl HistogramRead<'_> {
+    ghost use Rattle.wants.specs.Held.{wants_read};
+
     // The number of units counted in a dimension. The definition sums doubles from the highest bucket down. Each of those sums is
     // a whole number below 2^53, so none is rounded, and the whole numbers summed in any order come to the same double. A loop:
     // its invariant is the sum up to a bucket, which std's `sum` would hide.
@@ -56,7 +85,7 @@ impl Histogram<'_> {
         requires { dim < dims }
         ensures { result ≡ wants.counted (slice_index_or self.now.counts.now dim []) bucket.«BUCKETS» bucket.«BUCKETS» }
     {
-        let counts = &*self.counts;
+        let counts = self.counts;
         let mut total = 0;
         for n in &counts[dim] {
             total += u64::from(*n);
@@ -68,10 +97,10 @@ impl Histogram<'_> {
     // Infinite where the demand is within the rate.
     pub fn level(&self, dim: usize, rate: f64) -> f64
         requires { dim < dims }
-        ensures { result ≡ wants.level (wants_held self.now) dim rate }
+        ensures { result ≡ wants.level (wants_read self.now) dim rate }
     {
-        let counts = &*self.counts;
-        let sums = &*self.sums;
+        let counts = self.counts;
+        let sums = self.sums;
         let mut left = rate;
         let mut remaining = self.counted(dim);
         // By places: `zip` over the two rows takes nearly twice as long.

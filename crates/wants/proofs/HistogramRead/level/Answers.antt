@@ -1,8 +1,8 @@
--- `wants::Histogram::level` meets its contract: so far every bucket fits, with what is left and who remains. Assumes nothing.
+-- `wants::HistogramRead::level` meets its contract: so far every bucket fits, with what is left and who remains. Assumes nothing.
 use Rattle.wants.proofs.Steps.{walked_next, empty, fitting, stopping, found_level}
 use Rattle.wants.specs.Wants.{walked, found, level}
 use Rattle.std.proofs.Common.{◌≡◌, sym, ap, ◌∙◌, arith, rules}
-use Rattle.wants.proofs.Histogram.level.Goals as goal
+use Rattle.wants.proofs.HistogramRead.level.Goals as goal
 
 pub loop-b-init : goal.loop-b-init
 unfolding walked

@@ -1,8 +1,8 @@
--- `wants::Histogram::counted` meets its contract: the whole number of all buckets is, as a double, their sum from the top. Assumes nothing.
+-- `wants::HistogramRead::counted` meets its contract: the whole number of all buckets is, as a double, their sum from the top. Assumes nothing.
 use Rattle.wants.proofs.Orders.{first_none, first_next, from_the_top}
 use Rattle.wants.specs.Laws.{first_units}
 use Rattle.std.proofs.Common.{◌≡◌, sym, ap, ap₂, ◌+◌, ℕ, ◌∙◌, arith, rules}
-use Rattle.wants.proofs.Histogram.counted.Goals as goal
+use Rattle.wants.proofs.HistogramRead.counted.Goals as goal
 
 pub loop-n-init : goal.loop-n-init
 loop-n-init c = (search rules, sym (first_none _))
