@@ -199,15 +199,15 @@ pub type Sums = [[f64; BUCKETS]; DIMS];
 unsafe extern "C" {
     fn tankpost_start(
         head: Head,
-        tags: *mut u16, tags_len: usize,
-        slots: *mut u32, slots_len: usize,
+        tags: *const u16, tags_len: usize,
+        slots: *const u32, slots_len: usize,
         offsets: *mut Offsets,
         free: *mut u32, free_len: usize,
-        units: *mut UnitRow, units_len: usize,
-        uses: *mut UseRow, uses_len: usize,
+        units: *const UnitRow, units_len: usize,
+        uses: *const UseRow, uses_len: usize,
         counts: *mut Counts,
         sums: *mut Sums,
-        counted: *mut CountedRow, counted_len: usize,
+        counted: *const CountedRow, counted_len: usize,
         rate: *const [u64; DIMS],
         ceiling: *const [u64; DIMS],
     ) -> Answered;
@@ -326,15 +326,15 @@ impl Shedder {
         let a = unsafe {
             tankpost_start(
                 self.head,
-                self.tags.as_mut_ptr(), self.tags.len(),
-                self.slots.as_mut_ptr(), self.slots.len(),
+                self.tags.as_ptr(), self.tags.len(),
+                self.slots.as_ptr(), self.slots.len(),
                 &mut self.offsets,
                 self.free.as_mut_ptr(), self.free.len(),
-                self.units.as_mut_ptr(), self.units.len(),
-                self.uses.as_mut_ptr(), self.uses.len(),
+                self.units.as_ptr(), self.units.len(),
+                self.uses.as_ptr(), self.uses.len(),
                 &mut *self.counts,
                 &mut *self.sums,
-                self.counted.as_mut_ptr(), self.counted.len(),
+                self.counted.as_ptr(), self.counted.len(),
                 &rate,
                 &ceiling,
             )

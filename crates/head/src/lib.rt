@@ -2,7 +2,7 @@
 #![tactic(auto)]
 
 ghost use Rattle.std.specs.Prelude.{◌≡◌};
-ghost use Rattle.store.specs.Held.{lent_rows, lent_sizes, SameLent};
+ghost use Rattle.store.specs.Held.{SameStart, start_rows, start_sizes};
 ghost use Rattle.wants.specs.Held.{wants_held, SameArrays};
 ghost use Rattle.head.specs.Questions as asked;
 ghost use Rattle.head.specs.Answers as answers;
@@ -12,7 +12,7 @@ ghost use Rattle.head.specs.Bits.{SameButNanBits};
 use flow::{Bucket, DIMS, RATE_MOST, UNBOUNDED, Use};
 use sender::TABLES;
 pub use store::{CAUSES, Cause};
-use store::{Lent, OFFSETS, Sizes};
+use store::{LentStart, OFFSETS, Sizes};
 use wants::Histogram;
 
 // Units tracked at most. Every further one shares overflow's record.
@@ -397,18 +397,18 @@ fn opening(rate: [u64; DIMS], ceiling: [u64; DIMS], units: usize, counted: usize
 // start leaves the head given and the memory.
 pub fn start(
     head: Shedder,
-    lent: &mut Lent<'_>,
+    lent: &mut LentStart<'_>,
     histogram: &mut Histogram<'_>,
     rate: [u64; DIMS],
     ceiling: [u64; DIMS],
 ) -> Starting
     ensures same_but_nan_bits { SameButNanBits
-        (starts.beginning result (lent_rows lent.new) (wants_held histogram.new))
-        (starts.start head (lent_rows lent.old) lent.old.counted.now (wants_held histogram.old) rate ceiling) }
+        (starts.beginning result (start_rows lent.new) (wants_held histogram.new))
+        (starts.start head (start_rows lent.old) lent.old.counted.now (wants_held histogram.old) rate ceiling) }
     ensures counted_after { lent.new.counted.now ≡ lent.old.counted.now }
     ensures answer_value { answers.start_number result.answer
-        ≡ asked.start_asked rate (lent_sizes lent.old) }
-    ensures slices { SameLent lent.old lent.new }
+        ≡ asked.start_asked rate (start_sizes lent.old) }
+    ensures slices { SameStart lent.old lent.new }
     ensures arrays { SameArrays histogram.old histogram.new }
 {
     if let Err(refusal) = start_asked(rate, lent.sizes()) {

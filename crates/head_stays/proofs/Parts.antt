@@ -84,6 +84,17 @@ fit_entry m n room u now f =
     (cond_entered (ltb (found_at m room (name_of u)) room) _ _ (Enters room) (λ e. f)
     (cond_entered (ltb n room) _ _ (Enters room) (λ e. fit_added m n room (name_of u) (flow.added now) f (ltb-true n room e) (table_below u)) f))
 
+-- no more records than the room, whatever the lists are
+abbrev Within : ℕ → Entered → Type 0
+Within room e = e.place.tracked ≤ room
+
+pub used_entry : (m : Rows) (n room : ℕ) (u : Unit) (now : ℕ) → n ≤ room → (entry m n room u now).place.tracked ≤ room
+unfolding entry
+used_entry m n room u now p =
+    cond_entered (is_overflow u) _ _ (Within room) (λ e. p)
+    (cond_entered (ltb (found_at m room (name_of u)) room) _ _ (Within room) (λ e. p)
+    (cond_entered (ltb n room) _ _ (Within room) (λ e. omega (arith, ltb-true n room e)) p))
+
 -- ---- a use put back
 fit_put : (m : Rows) (n room i : ℕ) (u : Use) → Fit m n room → Fit (put m i u) n room
 unfolding put units_put uses_put

@@ -24,7 +24,7 @@ cond_changed P true x y f q = f refl
 cond_changed P false x y f q = q
 
 -- what the questions show
-taken : (h : Shedder) (s : Sizes) (os rate : List ℕ) (stamp : ℕ) → rates_asked h s os rate stamp ≡ 0 → (rates_whole rate ≡ true) × (is_stamp stamp ≡ true)
+pub taken : (h : Shedder) (s : Sizes) (os rate : List ℕ) (stamp : ℕ) → rates_asked h s os rate stamp ≡ 0 → (rates_whole rate ≡ true) × (is_stamp stamp ≡ true)
 unfolding rates_asked
 taken h s os rate stamp e =
     let a = zero_yes (whole_with h os) _ 2 e in
@@ -36,27 +36,30 @@ taken h s os rate stamp e =
 latest : (a b : ℕ) → a < 9007199254740992 → b < 9007199254740992 → max a b < 9007199254740992
 latest a b p q = omega arith
 
+pub turned_head : (h : Shedder) (rate ceiling : List ℕ) (stamp : ℕ) → Whole h → (rates_whole rate ≡ true) × (is_stamp stamp ≡ true)
+    → Whole (headed h (turned h.flow rate ceiling (max stamp h.flow.at_ms)) h.overflow h.tracked)
+unfolding turned
+turned_head h rate ceiling stamp w q = record {
+  rates = q.0;
+  clock = latest stamp h.flow.at_ms (stamp_of stamp q.1) w.clock;
+  at = w.at;
+  began = w.began;
+  read = w.read;
+  tables = w.tables;
+  units_least = w.units_least;
+  units_most = w.units_most;
+  counted_least = w.counted_least;
+  counted_most = w.counted_most;
+  tracked_held = w.tracked_held;
+  counted_held = w.counted_held;
+}
+
 turned_whole : (h : Shedder) (os rate ceiling : List ℕ) (stamp : ℕ) → whole_with h os ≡ true → (rates_whole rate ≡ true) × (is_stamp stamp ≡ true)
     → whole_with (headed h (turned h.flow rate ceiling (max stamp h.flow.at_ms)) h.overflow h.tracked) os ≡ true
-unfolding turned
 turned_whole h os rate ceiling stamp e q =
     let a = with_of h os e in
-    let w = whole_of h a.head in
     let h1 = headed h (turned h.flow rate ceiling (max stamp h.flow.at_ms)) h.overflow h.tracked in
-    with_is h1 os (whole_is h1 (record {
-      rates = q.0;
-      clock = latest stamp h.flow.at_ms (stamp_of stamp q.1) w.clock;
-      at = w.at;
-      began = w.began;
-      read = w.read;
-      tables = w.tables;
-      units_least = w.units_least;
-      units_most = w.units_most;
-      counted_least = w.counted_least;
-      counted_most = w.counted_most;
-      tracked_held = w.tracked_held;
-      counted_held = w.counted_held;
-    })) a.parts
+    with_is h1 os (whole_is h1 (turned_head h rate ceiling stamp (whole_of h a.head) q)) a.parts
 
 pub rates_keeps : (h : Shedder) (m : Rows) (k : List (List ℕ)) (rate ceiling : List ℕ) (stamp : ℕ) → whole_with h m.offsets ≡ true → changed_whole m (set_rates h m k rate ceiling stamp)
 unfolding set_rates

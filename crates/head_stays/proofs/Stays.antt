@@ -34,58 +34,60 @@ use Rattle.judge.specs.Judging.{flowed, outcome_at, judged, Memory, Judged, boun
 use Rattle.cut.specs.Cutting.{KeptBy, kept_by, hands_back, flowed_back, handed_back, Cut, noted, cut_after, cut}
 use Rattle.head_stays.specs.Whole.{Long, judged_whole, cut_whole, Stays}
 use Rattle.head.proofs.Whole.{Whole, whole_of, whole_is}
-use Rattle.head_stays.proofs.Parts.{Fit, fit_entry, fit_back, fit_tags}
+use Rattle.head_stays.proofs.Parts.{Fit, used_entry, fit_entry, fit_back, fit_tags}
 use Rattle.head_stays.proofs.Rates.{rates_keeps}
 use Rattle.head_stays.proofs.Whole.{Kept, scanned_kept, start_whole, start_keeps, judge_memory, cut_memory, memory_counted}
 
 -- ---- the record
-pub judged_kept : (h : Shedder) (m : Rows) (u : Unit) (cost : List Float) (now : ℕ) → Kept h m → now < 9007199254740992 → Kept (judged h m u cost now).head (judged h m u cost now).rows
+pub judged_head : (h : Shedder) (m : Rows) (u : Unit) (cost : List Float) (now : ℕ) → Whole h → now < 9007199254740992 → Whole (judged h m u cost now).head
 unfolding judged flowed
-judged_kept h m u cost now k p =
-    let w = k.head in
-    let f = fit_entry m h.tracked h.unit_room u now k.rows in
-    let e = entry m h.tracked h.unit_room u now in
-    record {
-      head = record {
-        rates = w.rates;
-        clock = p;
-        at = w.at;
-        began = w.began;
-        read = w.read;
-        tables = w.tables;
-        units_least = w.units_least;
-        units_most = w.units_most;
-        counted_least = w.counted_least;
-        counted_most = w.counted_most;
-        tracked_held = f.used;
-        counted_held = w.counted_held;
-      };
-      rows = fit_back e.rows h.overflow e.place.tracked h.unit_room e.place.at (outcome_at h u cost now e).used f;
-    }
+judged_head h m u cost now w p = record {
+  rates = w.rates;
+  clock = p;
+  at = w.at;
+  began = w.began;
+  read = w.read;
+  tables = w.tables;
+  units_least = w.units_least;
+  units_most = w.units_most;
+  counted_least = w.counted_least;
+  counted_most = w.counted_most;
+  tracked_held = used_entry m h.tracked h.unit_room u now w.tracked_held;
+  counted_held = w.counted_held;
+}
+
+pub judged_kept : (h : Shedder) (m : Rows) (u : Unit) (cost : List Float) (now : ℕ) → Kept h m → now < 9007199254740992 → Kept (judged h m u cost now).head (judged h m u cost now).rows
+judged_kept h m u cost now k p = record { head = judged_head h m u cost now k.head p; rows = rows }
+  where
+    rows : Fit (judged h m u cost now).rows (judged h m u cost now).head.tracked (judged h m u cost now).head.unit_room
+    rows = unfold judged flowed in (
+        let e = entry m h.tracked h.unit_room u now in
+        fit_back e.rows h.overflow e.place.tracked h.unit_room e.place.at (outcome_at h u cost now e).used (fit_entry m h.tracked h.unit_room u now k.rows))
+
+pub handed_head : (h : Shedder) (m : Rows) (u : Unit) (cost : List Float) → Whole h → Whole (handed_back (kept_by h m) u cost).head
+unfolding handed_back flowed_back
+handed_head h m u cost w = record {
+  rates = w.rates;
+  clock = w.clock;
+  at = w.at;
+  began = w.began;
+  read = w.read;
+  tables = w.tables;
+  units_least = w.units_least;
+  units_most = w.units_most;
+  counted_least = w.counted_least;
+  counted_most = w.counted_most;
+  tracked_held = used_entry m h.tracked h.unit_room u h.flow.at_ms w.tracked_held;
+  counted_held = w.counted_held;
+}
 
 pub handed_kept : (h : Shedder) (m : Rows) (u : Unit) (cost : List Float) → Kept h m → Kept (handed_back (kept_by h m) u cost).head (handed_back (kept_by h m) u cost).rows
-unfolding handed_back flowed_back
-handed_kept h m u cost k =
-    let w = k.head in
-    let f = fit_entry m h.tracked h.unit_room u h.flow.at_ms k.rows in
-    let e = entry m h.tracked h.unit_room u h.flow.at_ms in
-    record {
-      head = record {
-        rates = w.rates;
-        clock = w.clock;
-        at = w.at;
-        began = w.began;
-        read = w.read;
-        tables = w.tables;
-        units_least = w.units_least;
-        units_most = w.units_most;
-        counted_least = w.counted_least;
-        counted_most = w.counted_most;
-        tracked_held = f.used;
-        counted_held = w.counted_held;
-      };
-      rows = fit_back e.rows h.overflow e.place.tracked h.unit_room e.place.at (flow.handed_back (used_at e.rows h.overflow e.place.at) cost) f;
-    }
+handed_kept h m u cost k = record { head = handed_head h m u cost k.head; rows = rows }
+  where
+    rows : Fit (handed_back (kept_by h m) u cost).rows (handed_back (kept_by h m) u cost).head.tracked (handed_back (kept_by h m) u cost).head.unit_room
+    rows = unfold handed_back flowed_back in (
+        let e = entry m h.tracked h.unit_room u h.flow.at_ms in
+        fit_back e.rows h.overflow e.place.tracked h.unit_room e.place.at (flow.handed_back (used_at e.rows h.overflow e.place.at) cost) (fit_entry m h.tracked h.unit_room u h.flow.at_ms k.rows))
 
 -- ---- the counts: a row is left free
 sources_all : (b : Bool) (x y : Sources) (P : Sources → Type 0) → (b ≡ true → P x) → (b ≡ false → P y) → P (cond b x y)
@@ -117,7 +119,7 @@ pruned_held s c p e q =
     (λ y. omega (arith, ltb-true s.count (length s.rows) y, e))
     (λ y. let long : length s.rows ≤ s.count = ltb-false s.count (length s.rows) y in omega (arith, frees s.rows s.count (omega (arith, long, e, q)) (omega (arith, p, e)), p))
 
-tallied_whole : (h : Shedder) (i : List ℕ) (k : List (List ℕ)) (n : Name) (cause receptions : ℕ) → Whole h → length k ≡ h.counted_room → Whole (tallied (tally h i k) n cause receptions).head
+pub tallied_whole : (h : Shedder) (i : List ℕ) (k : List (List ℕ)) (n : Name) (cause receptions : ℕ) → Whole h → length k ≡ h.counted_room → Whole (tallied (tally h i k) n cause receptions).head
 unfolding tallied added
 tallied_whole h i k n cause receptions w e = record {
   rates = w.rates;
@@ -214,7 +216,7 @@ after_kept : (s : KeptBy) (k : List (List ℕ)) (u : Unit) (c : Cause) (cost : L
 unfolding noted
 after_kept s k u c cost w e = kept_with _ _ (tallied_kept s.head s.rows k (name_of u) (index_of c) (get_or cost 0 0) w e)
 
-handed_room : (h : Shedder) (m : Rows) (u : Unit) (cost : List Float) → (handed_back (kept_by h m) u cost).head.counted_room ≡ h.counted_room
+pub handed_room : (h : Shedder) (m : Rows) (u : Unit) (cost : List Float) → (handed_back (kept_by h m) u cost).head.counted_room ≡ h.counted_room
 unfolding handed_back
 handed_room h m u cost = refl
 

@@ -45,7 +45,7 @@ pub memory_counted : (h : Shedder) (s : Sizes) → memory_whole h s ≡ true →
 memory_counted h s e = (memory_of h s e).counted
 
 -- ---- a start
-opening_whole : (rate ceiling : List ℕ) (s : Sizes) → start_asked rate s ≡ 0 → head_whole (opening rate ceiling s.units s.counted) ≡ true
+pub opening_whole : (rate ceiling : List ℕ) (s : Sizes) → start_asked rate s ≡ 0 → head_whole (opening rate ceiling s.units s.counted) ≡ true
 unfolding start_asked sizes_whole opening head_whole stamps_whole is_stamp tables_whole
 opening_whole rate ceiling s e =
     let a = zero_yes (rates_whole rate) _ 0 e in
@@ -78,7 +78,7 @@ start_keeps h m k g rate ceiling w =
     start_case (eqb (start_asked rate (sizes_of m k)) 0) _ _ begun_whole (λ e. fresh m k rate ceiling (eqb-true (start_asked rate (sizes_of m k)) 0 e)) w
 
 -- ---- the steps of a scan
-visited_whole : (h : Shedder) (n : ℕ) → Whole h → 1 ≤ h.scan.remaining → n ≤ h.tracked → Whole (visited h n)
+pub visited_whole : (h : Shedder) (n : ℕ) → Whole h → 1 ≤ h.scan.remaining → n ≤ h.tracked → Whole (visited h n)
 unfolding visited
 visited_whole h n w p q =
     let s : h.scan.remaining + h.scan.next ≡ 64 = tables_sum h.scan.remaining h.scan.next w.tables p in
@@ -127,7 +127,7 @@ again_kept : (s : Scanning) → Keeps s → Keeps (again s)
 unfolding again
 again_kept s w = cond_scanning (leb 1 s.head.scan.remaining) (visit s) s (λ e. visit_kept s w (leb-true 1 s.head.scan.remaining e)) w
 
-trimmed_whole : (h : Shedder) (g : Hist) → Whole h → Whole (trimmed h g)
+pub trimmed_whole : (h : Shedder) (g : Hist) → Whole h → Whole (trimmed h g)
 unfolding trimmed
 trimmed_whole h g w = record {
   rates = w.rates;
@@ -151,7 +151,7 @@ ended_kept : (h : Shedder) (g : Hist) (m : Rows) → Kept h m → Kept (ended h 
 unfolding ended
 ended_kept h g m w = cond_kept (eqb h.scan.remaining 0) (trimmed h g) h m (trimmed_kept h g m w) w
 
-opened_whole : (h : Shedder) (clock : ℕ) → Whole h → clock < 9007199254740992 → Whole (opened h clock)
+pub opened_whole : (h : Shedder) (clock : ℕ) → Whole h → clock < 9007199254740992 → Whole (opened h clock)
 unfolding opened
 opened_whole h clock w p = record {
   rates = w.rates;

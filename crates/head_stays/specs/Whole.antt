@@ -8,7 +8,7 @@ use Rattle.store.specs.Held.{sizes_of}
 use Rattle.wants.specs.Wants.{Hist}
 use Rattle.head.specs.declared.Shedder.{Shedder}
 use Rattle.store.specs.declared.Cause.{Cause}
-use Rattle.head.specs.Questions.{whole_with, start_asked}
+use Rattle.head.specs.Questions.{head_whole, whole_with, start_asked}
 use Rattle.head.specs.Start.{Beginning, start}
 use Rattle.judge.specs.Judging.{Memory, Judged, judge}
 use Rattle.cut.specs.Cutting.{Cut, cut}
@@ -38,3 +38,10 @@ pub record Stays : Type 0 where
   pub judge_keeps : (h : Shedder) (m : Memory) (u : unit.Unit) (cost : List ℕ) (stamp : ℕ) → Long m.rows → whole_with h m.rows.offsets ≡ true → judged_whole (judge h m u cost stamp)
   pub cut_keeps : (h : Shedder) (m : Rows) (k : List (List ℕ)) (u : unit.Unit) (c : Cause) (cost : List ℕ) → Long m → whole_with h m.offsets ≡ true → cut_whole (cut h m k u c cost)
   pub rates_keeps : (h : Shedder) (m : Rows) (k : List (List ℕ)) (rate ceiling : List ℕ) (stamp : ℕ) → whole_with h m.offsets ≡ true → changed_whole m (set_rates h m k rate ceiling stamp)
+
+-- The head by itself, also where the offsets lent beside it are not whole for it, or are of another number.
+pub record HeadStays : Type 0 where
+  pub start_keeps : (h : Shedder) (m : Rows) (k : List (List ℕ)) (g : Hist) (rate ceiling : List ℕ) → head_whole h ≡ true → head_whole (start h m k g rate ceiling).head ≡ true
+  pub judge_keeps : (h : Shedder) (m : Memory) (u : unit.Unit) (cost : List ℕ) (stamp : ℕ) → head_whole h ≡ true → head_whole (judge h m u cost stamp).head ≡ true
+  pub cut_keeps : (h : Shedder) (m : Rows) (k : List (List ℕ)) (u : unit.Unit) (c : Cause) (cost : List ℕ) → head_whole h ≡ true → head_whole (cut h m k u c cost).head ≡ true
+  pub rates_keeps : (h : Shedder) (m : Rows) (k : List (List ℕ)) (rate ceiling : List ℕ) (stamp : ℕ) → head_whole h ≡ true → head_whole (set_rates h m k rate ceiling stamp).head ≡ true

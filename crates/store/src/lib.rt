@@ -7,10 +7,12 @@ ghost use Rattle.store.specs.Causes as causes;
 
 mod floats;
 mod lent;
+mod lent_start;
 
 pub use floats::{joined, part};
 use flow::DIMS;
 pub use lent::{Lent, LentRead, OFFSETS, Sizes};
+pub use lent_start::LentStart;
 use sender::{Name, Unit, Words};
 
 // Causes of a cut. A source counts its cuts for each.

@@ -18,7 +18,7 @@ use codes::{Count, Decision, Level};
 use flow::DIMS;
 use head::Shedder;
 use sender::{Unit, Words};
-use store::{Lent, LentRead, OFFSETS, SourceRow, UnitRow, UseRow};
+use store::{Lent, LentRead, LentStart, OFFSETS, SourceRow, UnitRow, UseRow};
 use wants::{Counts, Histogram, Sums};
 
 // A call's answer as a number (crate codes), and the head after it. C has no Result: a number tells the answer here and in each call.
@@ -41,25 +41,25 @@ pub struct Judged {
 #[unsafe(no_mangle)]
 pub extern "C" fn tankpost_start(
     head: Shedder,
-    tags: &mut [u16],
-    slots: &mut [u32],
+    tags: &[u16],
+    slots: &[u32],
     offsets: &mut [u32; OFFSETS],
     free: &mut [u32],
-    units: &mut [UnitRow],
-    uses: &mut [UseRow],
+    units: &[UnitRow],
+    uses: &[UseRow],
     counts: &mut Counts,
     sums: &mut Sums,
-    counted: &mut [SourceRow],
+    counted: &[SourceRow],
     rate: &[u64; DIMS],
     ceiling: &[u64; DIMS],
 ) -> Answered
     ensures { SameButNanBits
-        (after result.answer (state result.head tags.new slots.new offsets.new free.new units.new uses.new counts.new sums.new counted.new))
+        (after result.answer (state result.head tags.now slots.now offsets.new free.new units.now uses.now counts.new sums.new counted.now))
         (told_as start_number
-        (page.start (state head tags.old slots.old offsets.old free.old units.old uses.old counts.old sums.old counted.old)
+        (page.start (state head tags.now slots.now offsets.old free.old units.now uses.now counts.old sums.old counted.now)
         rate.now ceiling.now)) }
 {
-    let mut lent = Lent {
+    let mut lent = LentStart {
         tags,
         slots,
         offsets,

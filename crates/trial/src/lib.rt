@@ -13,7 +13,7 @@ ghost use Rattle.trial.specs.Trial as trial;
 
 use flow::{Bucket, DIMS, Use};
 use head::{CAUSES, Flow, Refusal, Scan, Shedder};
-use store::Lent;
+use store::{Lent, LentStart};
 use text::Page;
 use trial_script::{CutLine, JudgeLine, LINE_MOST, Line, StartLine};
 use wants::Histogram;
@@ -117,7 +117,22 @@ fn start(
     ensures value { trial.state result (lent_memory lent.new histogram.new) (seen page.new)
         ≡ trial.start (trial.state t (lent_memory lent.old histogram.old) (seen page.old)) l }
 {
-    let s = head::start(t.head, lent, histogram, l.rate.into(), l.ceiling.into());
+    let mut rows = LentStart {
+        tags: &mut *lent.tags,
+        slots: &mut *lent.slots,
+        offsets: &mut *lent.offsets,
+        free: &mut *lent.free,
+        units: &mut *lent.units,
+        uses: &mut *lent.uses,
+        counted: &mut *lent.counted,
+    };
+    let s = head::start(
+        t.head,
+        &mut rows,
+        histogram,
+        l.rate.into(),
+        l.ceiling.into(),
+    );
     trial_script::put_begin(page, s.answer);
     Trial {
         head: s.head,

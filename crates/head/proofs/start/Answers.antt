@@ -1,7 +1,7 @@
 use Rattle.std.proofs.Common.{ap, ◌∙◌, Err}
 use Rattle.head.specs.declared.Refusal.{Refusal}
 use Rattle.wants.specs.Held.{wants_held}
-use Rattle.store.specs.Held.{lent_rows}
+use Rattle.store.specs.Held.{start_rows}
 use Rattle.head.proofs.Opens.{begun_is, free_few}
 use Rattle.head.specs.Questions.{start_asked}
 use Rattle.head.specs.Start.{start, start_ends}
@@ -11,7 +11,7 @@ use Rattle.head.proofs.start.Goals as goal
 pub returns-in-Err-clause-same_but_nan_bits : goal.returns-in-Err-clause-same_but_nan_bits
 unfolding start
 returns-in-Err-clause-same_but_nan_bits c =
-    refused_is (λ (r : Refusal). start_ends (Err r) c.args.head (lent_rows c.args.lent.now) (wants_held c.args.histogram.now)) _ c.start_asked.result c.in-Err.refusal _ c.in-Err.is (c.start_asked.ensures ∙ ap (start_asked c.args.rate) c.sizes.ensures)
+    refused_is (λ (r : Refusal). start_ends (Err r) c.args.head (start_rows c.args.lent.now) (wants_held c.args.histogram.now)) _ c.start_asked.result c.in-Err.refusal _ c.in-Err.is (c.start_asked.ensures ∙ ap (start_asked c.args.rate) c.sizes.ensures)
 
 pub returns-clause-same_but_nan_bits : goal.returns-clause-same_but_nan_bits
 unfolding start
