@@ -17,6 +17,14 @@ use totals::{keep_from, total};
 
 // ---- a counted source: a tag, and a row of kind, four words, three counts
 
+// A source's words.
+pub fn counted_words(counted: &[SourceRow], i: usize) -> Words
+    requires { i < length counted.now }
+    ensures { result ≡ store.words_at counted.now i }
+{
+    store::words_at(counted, i)
+}
+
 // A source's counts of receiver-ceiling, over-share and relay-rate.
 #[tactic(auto, unfolding(crate::specs::Counted::counts_at))]
 pub fn counts_at(counted: &[SourceRow], i: usize) -> [u64; CAUSES]
@@ -33,7 +41,7 @@ fn has_words(counted: &[SourceRow], i: usize, words: Words) -> bool
     requires { i < length counted.now }
     ensures { result ≡ store.same (store.words_at counted.now i) words }
 {
-    store::words_at(counted, i) == words
+    counted_words(counted, i) == words
 }
 
 // One more for a cause.

@@ -2,12 +2,13 @@
 use mathlib.Core.Path.{◌≡◌, refl, sym, ap, ◌∙◌, subst}
 use mathlib.Core.Bool.{Bool, true, false, cond}
 use mathlib.Core.Logic.{⊎_elim}
-use mathlib.Core.List.{List}
+use mathlib.Core.List.{List, []}
 use Prim.Native.Nat.{ℕ, ◌+◌, ◌<◌, ◌≤◌}
 use native.Mathlib.Omega.{arith}
 use lib.Dec.{ltb}
 use lib.ListN.{length, get_or, set, length-set}
 use lib.Ieee.{Float}
+use lib.Seq.{get_or-set_other}
 use native.Mathlib.Decide.{dec_lt}
 use borrow.Author.Tests.{lt-ltb, le-ltb, ltb-true}
 use Rattle.flow.specs.Flow as flow
@@ -15,16 +16,16 @@ use Rattle.sender.specs.declared.Words.{Words}
 use Rattle.sender.specs.Sender.{name_of, is_overflow, rank}
 use Rattle.shifting.proofs.Whole.{whole_below}
 use Rattle.store.specs.Held.{sizes_of}
-use Rattle.store.specs.Store.{words_at, units_put, unit_row}
+use Rattle.store.specs.Store.{words_at, units_put, uses_put, unit_row, joined}
 use Rattle.store.proofs.Names.{words_put}
 use Rattle.parts.specs.Parts.{Rows, end, slot_of, slot_at, top, words_of, put, added}
 use Rattle.parts.specs.Held.{Sized}
-use Rattle.parts.specs.Laws.{Sound}
+use Rattle.parts.specs.Laws.{Sound, entry_at}
 use Rattle.parts.proofs.Laws.{comes}
 use Rattle.parts.proofs.Putting.{other_at}
 use Rattle.store_entry.specs.Entering as entering
 use Rattle.store_entry.specs.Entering.{Place, Entered, entered as given, place as placed}
-use Rattle.store_entry.specs.Own.{Has, Stays, Fits, name_at, table_of}
+use Rattle.store_entry.specs.Own.{Has, Stays, SameRows, Fits, name_at, table_of}
 use Rattle.store_entry.proofs.Own.{owns, has_or_not}
 use Rattle.store_entry.proofs.Own.{table_below}
 use Rattle.head.proofs.Whole.{whole_of}
@@ -46,6 +47,9 @@ pub record InItsRecord (s : State) (u : Unit) (x : After ℕ) : Type 0 where
   pub others : Has s.rows u → (j : ℕ) → Stays s.rows x.state.rows s.head.tracked j j
   pub before : (Has s.rows u → ⊥) → (j : ℕ) → j < x.answer → Stays s.rows x.state.rows s.head.tracked j j
   pub behind : (Has s.rows u → ⊥) → (j : ℕ) → x.answer ≤ j → j < s.head.tracked → Stays s.rows x.state.rows s.head.tracked j (j + 1)
+  pub beyond : Has s.rows u → (j : ℕ) → entry_at x.state.rows j ≡ entry_at s.rows j
+  pub beyond_added : (Has s.rows u → ⊥) → (j : ℕ) → s.head.tracked < j → entry_at x.state.rows j ≡ entry_at s.rows j
+  pub rows : (slot : ℕ) → (slot ≡ slot_at x.state.rows x.answer → ⊥) → SameRows s.rows x.state.rows slot
   pub overflow : x.state.head.overflow ≡ s.head.overflow
 
 sized : (s : State) (u : Unit) → Tracked s u → Sized s.rows
@@ -121,6 +125,9 @@ module _ (s : State) (u : Unit) (clock : ℕ) (w : Tracked s u) where
         others = λ a j. record { tag = refl; slot = refl; same = λ z. refl };
         before = λ n. absurd (n h);
         behind = λ n. absurd (n h);
+        beyond = λ a j. refl;
+        beyond_added = λ n. absurd (n h);
+        rows = λ y c. (refl, refl);
         overflow = refl;
       })
 
@@ -141,6 +148,9 @@ module _ (s : State) (u : Unit) (clock : ℕ) (w : Tracked s u) where
         others = λ a. absurd (lacks a);
         before = λ a. f.before;
         behind = λ a. f.behind;
+        beyond = λ a. absurd (lacks a);
+        beyond_added = λ a. f.beyond;
+        rows = λ y c. f.rows y (λ q. c (q ∙ sym f.slot));
         overflow = refl;
       }
 
@@ -186,6 +196,25 @@ name_put m i x h =
 put_stays : (m m1 : Rows) (n n1 p : ℕ) (x : Use) (i j : ℕ) → Stays m m1 n i j → (Sound m n → Sound m1 n1) → p < n1 → j < n1 → (j ≡ p → ⊥) → Stays m (put m1 p x) n i j
 put_stays m m1 n n1 p x i j k f q h c = record { tag = unfold put in k.tag; slot = unfold put in k.slot; same = λ z. other_at m1 n1 p x (f z) q j h c ∙ k.same z }
 
+place_put : (m : Rows) (i : ℕ) (x : Use) (j : ℕ) → entry_at (put m i x) j ≡ entry_at m j
+unfolding put entry_at
+place_put m i x j = refl
+
+slot_put : (m : Rows) (i : ℕ) (x : Use) → slot_at (put m i x) i ≡ slot_at m i
+unfolding put
+slot_put m i x = ap (slot_of (get_or m.slots i 0)) (units_long m.units (slot_at m i) x)
+
+rows_put : (m m1 : Rows) (i : ℕ) (x : Use) (y : ℕ) → ((y ≡ slot_at m1 i → ⊥) → SameRows m m1 y) → (y ≡ slot_at (put m1 i x) i → ⊥) → SameRows m (put m1 i x) y
+rows_put m m1 i x y f c = go (λ q. c (q ∙ sym (slot_put m1 i x)))
+  where
+    go : (y ≡ slot_at m1 i → ⊥) → SameRows m (put m1 i x) y
+    go d =
+        let r = f d in
+        unfold put units_put uses_put in (
+          get_or-set_other m1.units (slot_at m1 i) y (set (set (unit_row m1.units (slot_at m1 i)) 5 x.at_ms) 6 x.fresh) [] d ∙ r.0,
+          get_or-set_other m1.uses (slot_at m1 i) y (joined x.attempted x.credit) [] d ∙ r.1,
+        )
+
 -- y is the state entered, with other flow
 uses : (s : State) (u : Unit) (clock : ℕ) (next : Use → Use) (w : Tracked s u) (y : State) (x : Use)
     → y.rows ≡ (entered s u clock).rows → y.head.overflow ≡ (entered s u clock).head.overflow → x ≡ next (use_in (entered s u clock) (place s u clock)) → Uses s u clock next (page.put_back y (place s u clock) x)
@@ -206,6 +235,9 @@ uses s u clock next w y x p q r =
       others = λ a j h c. stays j j (f.others a j) (let g = f.same a in omega arith) c;
       before = λ a j h. stays j j (f.before a j h) (let g = f.in_use in omega arith) (λ c. omega (arith, c, h));
       behind = λ a j l h. stays j (j + 1) (f.behind a j l h) (let g = f.more a in omega arith) (λ c. omega (arith, c, l));
+      beyond = λ a j h. ap (λ (z : Rows). entry_at z j) e ∙ place_put m i x j ∙ f.beyond a j;
+      beyond_added = λ a j h. ap (λ (z : Rows). entry_at z j) e ∙ place_put m i x j ∙ f.beyond_added a j h;
+      rows = λ k. subst (λ (z : Rows). (k ≡ slot_at z i → ⊥) → SameRows s.rows z k) (sym e) (rows_put s.rows m i x k (f.rows k));
       overflow = put_overflow y i x long ∙ q ∙ f.overflow;
     }
 

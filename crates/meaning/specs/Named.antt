@@ -4,8 +4,9 @@
 use Rattle.std.specs.Prelude.{ℕ, ◌+◌, ◌<◌, ◌≤◌, ◌≡◌, true, false, List, ◌⊎◌, Float}
 use Rattle.flow.specs.Flow as flow
 use Rattle.sender.specs.Sender.{name_of, is_overflow, rank}
-use Rattle.parts.specs.Parts.{use_of}
-use Rattle.store_entry.specs.Own.{Has, Stays, name_at}
+use Rattle.parts.specs.Parts.{use_of, slot_at}
+use Rattle.parts.specs.Laws.{entry_at}
+use Rattle.store_entry.specs.Own.{Has, Stays, SameRows, name_at}
 use Rattle.meaning.specs.State.{State, Unit, Name, Use}
 use Rattle.meaning.specs.Page as page
 
@@ -38,6 +39,10 @@ pub record Uses (s : State) (u : Unit) (clock : ℕ) (next : Use → Use) (t : S
   pub others : Has s.rows u → (j : ℕ) → j < s.head.tracked → (j ≡ place s u clock → ⊥) → Stays s.rows t.rows s.head.tracked j j
   pub before : (Has s.rows u → ⊥) → (j : ℕ) → j < place s u clock → Stays s.rows t.rows s.head.tracked j j
   pub behind : (Has s.rows u → ⊥) → (j : ℕ) → place s u clock ≤ j → j < s.head.tracked → Stays s.rows t.rows s.head.tracked j (j + 1)
+  -- the places of the index behind the entries then in use are as they were, and so are the rows of each slot but the record's
+  pub beyond : Has s.rows u → (j : ℕ) → s.head.tracked ≤ j → entry_at t.rows j ≡ entry_at s.rows j
+  pub beyond_added : (Has s.rows u → ⊥) → (j : ℕ) → s.head.tracked < j → entry_at t.rows j ≡ entry_at s.rows j
+  pub rows : (slot : ℕ) → (slot ≡ slot_at t.rows (place s u clock) → ⊥) → SameRows s.rows t.rows slot
   pub overflow : t.head.overflow ≡ s.head.overflow
 
 pub record Named : Type 0 where

@@ -1,19 +1,19 @@
 -- What holds whatever bits the memory holds: behind the room the tags are as they were, the offsets are whole, and the lengths the same.
 -- Assumes nothing.
 use mathlib.Core.Path.{◌≡◌, sym, ap, subst, ◌∙◌}
-use mathlib.Core.List.{List, ◌++◌}
+use mathlib.Core.List.{List}
 use Prim.Native.Nat.{ℕ, ◌+◌, ◌-◌, ◌<◌, ◌≤◌}
 use native.Mathlib.Omega.{arith}
-use lib.ListN.{length, get_or, replicate, length-append, length-replicate}
+use lib.ListN.{length, get_or}
 use Rattle.std.specs.List.{SameFrom}
 use Rattle.shifting.specs.Shifting.{part, inserted}
 use Rattle.shifting.specs.Offsets.{from_on, Whole}
-use Rattle.shifting.proofs.Laying.{part_length, over_beyond}
 use Rattle.shifting.proofs.Places.{inserted_beyond}
 use Rattle.shifting.proofs.Whole.{whole_below}
-use Rattle.parts.specs.Parts.{Rows, begin, end, those, stays, squeezed, no_entry, dropped}
+use Rattle.parts.specs.Parts.{Rows, begin, end, those, stays, dropped}
 use Rattle.parts.specs.declared.Parts.{Parts}
 use Rattle.parts.specs.Held.{held, SameParts, Sized}
+use Rattle.parts.proofs.Places.{squeezed_beyond}
 use Rattle.parts.proofs.Closing.{tagged}
 use Rattle.parts.proofs.Keeping.{from_whole}
 use Rattle.parts.proofs.Slots.{counted}
@@ -36,14 +36,8 @@ module _ (m : Rows) (n t now : ℕ) (z : Sized m) (q : n ≤ length m.units) (w 
   few = omega (arith, counted m n t now z q up within, tagged m.tags m.slots m.offsets m.free m.units m.uses n t now up within q z.tags z.slots z.free)
 
   dropped_behind : (k d : ℕ) → n ≤ k → get_or (dropped m n t now).tags k d ≡ get_or m.tags k d
-  unfolding dropped squeezed
-  dropped_behind k d g =
-      let a = up in
-      let b = within in
-      let c = few in
-      let Z : List ℕ = replicate (end m t - (begin m t + length K)) no_entry in
-      over_beyond d m.tags (begin m t) ((K ++ part m.tags (end m t) n) ++ Z) k (omega (arith, z.tags))
-      (omega (arith, z.tags, length-append (K ++ part m.tags (end m t) n) Z, length-append K (part m.tags (end m t) n), part_length m.tags (end m t) n (omega (arith, z.tags)), length-replicate {A = ℕ} (end m t - (begin m t + length K)) no_entry))
+  unfolding dropped
+  dropped_behind k d g = squeezed_beyond (stays m.slots m.units now) m.tags (begin m t) (end m t) n up within (omega (arith, z.tags)) (omega (arith, up, few)) k d g
 
 pub behind_dropped : (m r : Rows) (n t now : ℕ) → Sized m → n ≤ length m.units → Whole m.offsets n → t < 64 → r ≡ dropped m n t now → SameFrom m.tags r.tags (length m.units)
 behind_dropped m r n t now z q w h e k d g = ap (λ (x : Rows). get_or x.tags k d) e ∙ dropped_behind m n t now z q w h k d (omega arith)

@@ -12,10 +12,10 @@ use Rattle.shifting.specs.Shifting.{part}
 use Rattle.shifting.proofs.Laying.{part_length}
 use Rattle.shifting.proofs.Places.{later, part_at}
 use Rattle.parts.specs.Parts.{Rows, begin, end, those, stays, goes, gone, dropped, left, slot_of, slot_at, no_words, no_floats}
-use Rattle.parts.specs.Laws.{Entry, entry_at, entries, of_entry, stale, record_at, without, Fits, Goes, Cleared, Clear}
+use Rattle.parts.specs.Laws.{Entry, an_entry, entry_at, entries, of_entry, stale, record_at, without, Fits, Goes, Cleared, Clear}
 use Rattle.parts.proofs.Places.{nth, stood}
 use Rattle.parts.proofs.Listing.{cleared_other}
-use Rattle.parts.proofs.Keeping.{inside, dropped_fits, dropped_cleared}
+use Rattle.parts.proofs.Keeping.{same_entry, inside, dropped_fits, dropped_freed, dropped_behind, dropped_lengths, dropped_cleared}
 use Rattle.parts.proofs.Dropping.{stood_at, stood_low, stood_tag, stood_slot, stood_list}
 use Rattle.parts.proofs.Stale.{goes_at, stays_at, those_without}
 
@@ -34,14 +34,8 @@ entries_at d m (suc n) k h = elim (dec_le n k) [
   | no a ↦ get_or-append (entries m n) (entry_at m n ∷ []) d k (omega (arith, length_entries m n)) ∙ entries_at d m n k (omega arith)
 ]
 
-abbrev an_entry : ℕ → ℕ → Entry
-an_entry tag slot = record { tag = tag; slot = slot }
-
 zero_entry : Entry
 zero_entry = an_entry 0 0
-
-same_entry : (a a' b b' : ℕ) → a ≡ a' → b ≡ b' → an_entry a b ≡ an_entry a' b'
-same_entry a a' b b' p q = cc
 
 -- an entry at which p holds is among those
 there : (p : ℕ → Bool) (i : ℕ) (xs : List ℕ) (k : ℕ) → k < length xs → p (i + k) ≡ true → (j : ℕ) × (j < length (those p i xs)) × (get_or (those p i xs) j 0 ≡ get_or xs k 0)
@@ -96,6 +90,10 @@ module _ (m : Rows) (n t at_ms : ℕ) (w : Fits m n) (h : t < 64) where
       (λ k l. entries_at zero_entry S (left m n t at_ms) k l ∙ entry_came k l ∙ sym (entries_at zero_entry m n (stood_at m t at_ms k) (stood_low m n t at_ms w h k l)))
       ∙ ap (λ (l : List Entry). (take a E ++ l) ++ drop b E) part_stays
 
+  freed_places : (k : ℕ) → left m n t at_ms ≤ k → k < n → entry_at S k ≡ an_entry 0 0
+  unfolding entry_at
+  freed_places k l u = let f = dropped_freed m n t at_ms w h k l u in same_entry _ _ _ _ f.0 f.1
+
   -- ---- the slots
   abbrev p : ℕ → Bool
   p = goes m.slots m.units at_ms
@@ -143,4 +141,7 @@ clear m n t at_ms w h = record {
   fits = dropped_fits m n t at_ms w h;
   cleared = clear_there m n t at_ms w h;
   kept = λ y l. kept m n t at_ms w h y;
+  freed = freed_places m n t at_ms w h;
+  behind = dropped_behind m n t at_ms w h;
+  lengths = dropped_lengths m n t at_ms w h;
 }

@@ -15,11 +15,11 @@ use Rattle.shifting.specs.Shifting.{part, inserted}
 use Rattle.shifting.specs.Offsets.{from_on, Whole}
 use Rattle.shifting.proofs.Laying.{part_length, length_over}
 use Rattle.shifting.proofs.Whole.{whole_mono, whole_below, length_from_on}
-use Rattle.shifting.proofs.Places.{from_before, from_behind, inserted_before, inserted_here, inserted_behind, length_inserted, part_at}
+use Rattle.shifting.proofs.Places.{from_before, from_behind, inserted_before, inserted_here, inserted_behind, inserted_beyond, length_inserted, part_at}
 use Rattle.parts.specs.Parts.{those, stays, no_entry, squeezed, Rows, begin, end, top, gone, added, dropped, left, cleared, slot_of, words_of, floats_of, no_words, no_floats}
 use Rattle.parts.specs.Held.{Sized}
-use Rattle.parts.specs.Laws.{one_if, Once, Homed, Sound, Fits, Cleared}
-use Rattle.parts.proofs.Places.{squeezed_before, squeezed_within, squeezed_behind, squeezed_freed, nth, stood}
+use Rattle.parts.specs.Laws.{one_if, Once, Homed, Sound, Fits, an_entry, entry_at, AsLong, Cleared}
+use Rattle.parts.proofs.Places.{squeezed_before, squeezed_within, squeezed_behind, squeezed_freed, squeezed_beyond, nth, stood}
 use Rattle.parts.proofs.Closing.{tagged}
 use Rattle.parts.proofs.Clearing.{length_cleared, cleared_there}
 use Rattle.parts.proofs.Slots.{added_standing, dropped_standing, counted}
@@ -131,6 +131,9 @@ length_squeezed p xs a b n h l m o =
     length_over xs a ((those p a (part xs a b) ++ part xs b n) ++ replicate (b - (a + length (those p a (part xs a b)))) no_entry)
     (omega (arith, length-append (those p a (part xs a b) ++ part xs b n) (replicate (b - (a + length (those p a (part xs a b)))) no_entry), length-append (those p a (part xs a b)) (part xs b n), part_length xs b n m, length-replicate {A = ℕ} (b - (a + length (those p a (part xs a b)))) no_entry))
 
+pub same_entry : (a a' b b' : ℕ) → a ≡ a' → b ≡ b' → an_entry a b ≡ an_entry a' b'
+same_entry a a' b b' p q = cc
+
 -- ---- an insertion
 module _ (s : Rows) (n : ℕ) (name : Name) (used : Use) (w : Sound s n) (l : n < length s.units) (h : table_of_tag name.tag < 64) where
   abbrev t : ℕ
@@ -181,6 +184,27 @@ module _ (s : Rows) (n : ℕ) (name : Name) (used : Use) (w : Sound s n) (l : n 
 
   pub added_sound : Sound (added s n name used) (n + 1)
   added_sound = record { sized = added_sized; room = added_room; offsets = added_offsets; whole = added_whole; once = added_once }
+
+  -- the places of the index behind the new last entry, and the lengths
+  pub added_behind : (k : ℕ) → n < k → entry_at (added s n name used) k ≡ entry_at s k
+  unfolding added entry_at
+  added_behind k u =
+      let z = w.sized in
+      same_entry _ _ _ _ (inserted_beyond 0 s.tags q n name.tag under (omega (arith, z.tags)) k u) (inserted_beyond 0 s.slots q n (top s n) under (omega (arith, z.slots)) k u)
+
+  pub added_lengths : AsLong s (added s n name used)
+  unfolding added
+  added_lengths =
+      let z = w.sized in
+      let o = w.offsets in
+      record {
+        tags = length_inserted 0 s.tags q n name.tag under (omega (arith, z.tags));
+        slots = length_inserted 0 s.slots q n (top s n) under (omega (arith, z.slots));
+        offsets = length_from_on (λ (o : ℕ). o + 1) s.offsets (t + 1) (omega arith);
+        free = refl;
+        units = length-set s.units (slot_of (top s n) (length s.units)) (words_of name used);
+        uses = length-set s.uses (slot_of (top s n) (length s.units)) (floats_of used);
+      }
 
   pub added_homed : Homed s → Homed (added s n name used)
   unfolding added
@@ -260,6 +284,35 @@ module _ (s : Rows) (n t now : ℕ) (w : Fits s n) (h : t < 64) where
   pub dropped_freed : (k : ℕ) → n - D ≤ k → k < n → (get_or (dropped s n t now).tags k 0 ≡ no_entry) × (get_or (dropped s n t now).slots k 0 ≡ no_entry)
   unfolding dropped
   dropped_freed k u v = (row_freed s.tags (omega (arith, w.room, w.sized.tags)) tag_counts k u v, row_freed s.slots (omega (arith, w.room, w.sized.slots)) counts k u v)
+
+  -- and those behind the entries that there were
+  row_behind : (xs : List ℕ) → n ≤ length xs → length (those (stays s.slots s.units now) (begin s t) (part xs (begin s t) (end s t))) + D ≡ end s t - begin s t
+      → (k : ℕ) → n ≤ k → get_or (squeezed (stays s.slots s.units now) xs (begin s t) (end s t) n) k 0 ≡ get_or xs k 0
+  row_behind xs m e k u =
+      let r = rise in
+      squeezed_beyond (stays s.slots s.units now) xs (begin s t) (end s t) n r inside m (omega arith) k 0 u
+
+  pub dropped_behind : (k : ℕ) → n ≤ k → entry_at (dropped s n t now) k ≡ entry_at s k
+  unfolding dropped entry_at
+  dropped_behind k u = same_entry _ _ _ _ (row_behind s.tags (omega (arith, w.room, w.sized.tags)) tag_counts k u) (row_behind s.slots (omega (arith, w.room, w.sized.slots)) counts k u)
+
+  pub dropped_lengths : AsLong s (dropped s n t now)
+  unfolding dropped
+  dropped_lengths =
+      let z = w.sized in
+      let r = rise in
+      let i = inside in
+      let c = counts in
+      let g = tag_counts in
+      let o = w.offsets in
+      record {
+        tags = length_squeezed (stays s.slots s.units now) s.tags (begin s t) (end s t) n r i (omega (arith, w.room, z.tags)) (omega arith);
+        slots = length_squeezed (stays s.slots s.units now) s.slots (begin s t) (end s t) n r i (omega (arith, w.room, z.slots)) (omega arith);
+        offsets = length_from_on (λ (o : ℕ). o - D) s.offsets (t + 1) (omega arith);
+        free = length_over s.free (length s.units - n) (gone s t now) (omega (arith, w.room, z.free));
+        units = length_cleared no_words s.units (gone s t now);
+        uses = length_cleared no_floats s.uses (gone s t now);
+      }
 
   pub dropped_cleared : (k : ℕ) → k < D → Cleared (dropped s n t now) (slot_of (get_or (gone s t now) k 0) (length s.units))
   unfolding dropped

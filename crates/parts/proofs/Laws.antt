@@ -12,7 +12,7 @@ use Rattle.shifting.proofs.Places.{part_at}
 use Rattle.parts.specs.Parts.{Rows, begin, end, those, stays}
 use Rattle.parts.specs.Laws.{Fits, listed, stale, without, Comes, Leave, Move, Stays}
 use Rattle.parts.proofs.Listing.{no_record, length_listed, listed_at}
-use Rattle.parts.proofs.Keeping.{fits_of, added_sound, added_homed, dropped_sound, dropped_homed, dropped_freed, dropped_cleared, inside}
+use Rattle.parts.proofs.Keeping.{fits_of, added_sound, added_behind, added_lengths, added_homed, dropped_sound, dropped_homed, dropped_freed, dropped_cleared, inside}
 use Rattle.parts.proofs.Begun.{put_sound, put_homed}
 use Rattle.parts.proofs.Dropping.{words_stay, floats_stay, dropped_listed, dropped_every, stood_at, stood_rises, stood_low, stood_tag, stood_slot}
 use Rattle.parts.proofs.Inserting.{added_listed, added_every}
@@ -25,6 +25,8 @@ comes m n name u s l h = record {
   sound = added_sound m n name u s l h;
   well = λ home. record { sound = added_sound m n name u s l h; homed = added_homed m n name u s l h home };
   every = added_every m n name u s l h;
+  behind = added_behind m n name u s l h;
+  lengths = added_lengths m n name u s l h;
 }
 
 pub puts : Stays

@@ -7,7 +7,7 @@ use native.Mathlib.Omega.{arith}
 use lib.ListN.{length, get_or, take, drop, replicate, length-append, length-replicate, get_or-append, get_or-replicate}
 use lib.Seq.{take_at, length-take-le}
 use Rattle.shifting.specs.Shifting.{over, part}
-use Rattle.shifting.proofs.Laying.{part_length}
+use Rattle.shifting.proofs.Laying.{over_beyond, part_length}
 use Rattle.shifting.proofs.Places.{later, over_before, over_within, part_at}
 use Rattle.parts.specs.Parts.{those, no_entry, squeezed}
 
@@ -60,6 +60,11 @@ module _ (p : ℕ → Bool) (xs : List ℕ) (from to n : ℕ) (h : from ≤ to) 
       over_within 0 xs from ((K ++ part xs to n) ++ Z) k (omega arith) (omega arith) (omega (arith, all_long))
       ∙ later 0 (K ++ part xs to n) Z (length K + (n - to)) (k - from) whole_long (omega arith)
       ∙ get_or-replicate {A = ℕ} (to - (from + length K)) (k - from - (length K + (n - to))) no_entry 0 (omega arith)
+
+  -- and behind n all is as it was
+  pub squeezed_beyond : from + length K ≤ to → (k d : ℕ) → n ≤ k → get_or (squeezed p xs from to n) k d ≡ get_or xs k d
+  unfolding squeezed
+  squeezed_beyond c k d u = over_beyond d xs from ((K ++ part xs to n) ++ Z) k (omega arith) (omega (arith, all_long))
 
 -- ---- those that pass: where the k-th of m places from i on stood
 unfoldable pub nth : (ℕ → Bool) → ℕ → ℕ → ℕ → ℕ

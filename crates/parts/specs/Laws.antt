@@ -67,6 +67,26 @@ listed m (suc n) = listed m n ++ (record_at m n ∷ [])
 abbrev pub Every : (Record → Type 0) → Rows → ℕ → Type 0
 Every P m n = (k : ℕ) → k < n → P (record_at m k)
 
+-- ---- the index itself, whatever the entries name
+pub record Entry : Type 0 where
+  pub tag : ℕ
+  pub slot : ℕ
+
+abbrev pub an_entry : ℕ → ℕ → Entry
+an_entry tag slot = record { tag = tag; slot = slot }
+
+unfoldable pub entry_at : Rows → ℕ → Entry
+entry_at m k = record { tag = get_or m.tags k 0; slot = get_or m.slots k 0 }
+
+-- no list is longer or shorter
+pub record AsLong (was is : Rows) : Type 0 where
+  pub tags : length is.tags ≡ length was.tags
+  pub slots : length is.slots ≡ length was.slots
+  pub offsets : length is.offsets ≡ length was.offsets
+  pub free : length is.free ≡ length was.free
+  pub units : length is.units ≡ length was.units
+  pub uses : length is.uses ≡ length was.uses
+
 -- ---- a start
 pub record Begins (m : Rows) : Type 0 where
   -- no record is there
@@ -90,6 +110,9 @@ pub record Adds (m : Rows) (n : ℕ) (name : Name) (u : Use) : Type 1 where
   pub sound : Sound (added m n name u) (n + 1)
   pub well : Homed m → Well (added m n name u) (n + 1)
   pub every : (P : Record → Type 0) → P (record_of name u) → Every P m n → Every P (added m n name u) (n + 1)
+  -- the places of the index behind the new last entry are as they were, and no list is longer or shorter
+  pub behind : (k : ℕ) → n < k → entry_at (added m n name u) k ≡ entry_at m k
+  pub lengths : AsLong m (added m n name u)
 
 abbrev pub Comes : Type 1
 Comes = (m : Rows) (n : ℕ) (name : Name) (u : Use) → Sound m n → n < length m.units → table_of_tag name.tag < «PARTS» → Adds m n name u
@@ -142,13 +165,6 @@ abbrev pub Move : Type 0
 Move = (m : Rows) (n table at_ms : ℕ) → Sound m n → table < «PARTS» → Moves m n table at_ms
 
 -- ---- what a drop leaves whatever the slots are that the entries name, also where two name the same one
-pub record Entry : Type 0 where
-  pub tag : ℕ
-  pub slot : ℕ
-
-unfoldable pub entry_at : Rows → ℕ → Entry
-entry_at m k = record { tag = get_or m.tags k 0; slot = get_or m.slots k 0 }
-
 -- the first n
 unfoldable pub entries : Rows → ℕ → List Entry
 entries m zero = []
@@ -171,6 +187,10 @@ pub record Clears (m : Rows) (n table at_ms : ℕ) : Type 0 where
   pub cleared : (k : ℕ) → Goes m table at_ms k → Cleared (dropped m n table at_ms) (slot_at m k)
   pub kept : (slot : ℕ) → slot < length m.units → ((k : ℕ) → Goes m table at_ms k → slot_at m k ≡ slot → ⊥)
       → (get_or (dropped m n table at_ms).units slot [] ≡ get_or m.units slot []) × (get_or (dropped m n table at_ms).uses slot [] ≡ get_or m.uses slot [])
+  -- the places of the index that are then free are 0, and from the n-th on all are as they were; no list is longer or shorter
+  pub freed : (k : ℕ) → left m n table at_ms ≤ k → k < n → entry_at (dropped m n table at_ms) k ≡ an_entry 0 0
+  pub behind : (k : ℕ) → n ≤ k → entry_at (dropped m n table at_ms) k ≡ entry_at m k
+  pub lengths : AsLong m (dropped m n table at_ms)
 
 abbrev pub Clear : Type 0
 Clear = (m : Rows) (n table at_ms : ℕ) → Fits m n → table < «PARTS» → Clears m n table at_ms

@@ -134,6 +134,34 @@ pub fn find_in(
     )
 }
 
+// The use of the record at i, in slices that are only read.
+#[tactic(auto, unfolding(crate::specs::Parts::use_of, store::specs::Store::use_at))]
+pub fn use_in(slots: &[u32], units: &[UnitRow], uses: &[UseRow], i: usize) -> Use
+    requires i_in_bounds { i < length slots.now }
+    requires some { 0 < length units.now }
+    requires uses_room { length units.now ≤ length uses.now }
+    ensures { (tags offsets free : List ℕ) → result ≡ parts.use_of (rows tags slots.now offsets free units.now uses.now) i }
+{
+    let slot = slot_of(slots[i], units.len());
+    Use {
+        attempted: part(uses[slot], 0),
+        credit: part(uses[slot], DIMS),
+        at_ms: units[slot][5],
+        fresh: units[slot][6],
+    }
+}
+
+// The stamp of the record at i, in slices that are only read.
+#[tactic(auto, unfolding(crate::specs::Parts::stamp_of, store::specs::Store::stamp_at))]
+pub fn stamp_in(slots: &[u32], units: &[UnitRow], i: usize) -> u64
+    requires i_in_bounds { i < length slots.now }
+    requires some { 0 < length units.now }
+    ensures { (tags offsets free : List ℕ) (uses : List (List Float))
+        → result ≡ parts.stamp_of (rows tags slots.now offsets free units.now uses) i }
+{
+    units[slot_of(slots[i], units.len())][5]
+}
+
 impl Parts<'_> {
     // The slot of the entry at i.
     fn slot_at(&self, i: usize) -> usize
@@ -155,28 +183,20 @@ impl Parts<'_> {
     }
 
     // The use of the record at i.
-    #[tactic(auto, unfolding(crate::specs::Parts::use_of, store::specs::Store::use_at))]
     pub fn use_at(&self, i: usize) -> Use
         requires sizes { Sized (held self.now) }
         requires i_in_bounds { i < length self.now.slots.now }
         ensures { result ≡ parts.use_of (held self.now) i }
     {
-        let slot = self.slot_at(i);
-        Use {
-            attempted: part(self.uses[slot], 0),
-            credit: part(self.uses[slot], DIMS),
-            at_ms: self.units[slot][5],
-            fresh: self.units[slot][6],
-        }
+        use_in(self.slots, self.units, self.uses, i)
     }
 
-    #[tactic(auto, unfolding(crate::specs::Parts::stamp_of, store::specs::Store::stamp_at))]
     pub fn stamp_at(&self, i: usize) -> u64
         requires sizes { Sized (held self.now) }
         requires i_in_bounds { i < length self.now.slots.now }
         ensures { result ≡ parts.stamp_of (held self.now) i }
     {
-        self.units[self.slot_at(i)][5]
+        stamp_in(self.slots, self.units, i)
     }
 
     // The use put into the record at i; its unit stays.

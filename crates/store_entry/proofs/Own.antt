@@ -24,15 +24,16 @@ use Rattle.sender.proofs.Reading.{name_ext, words_same, words_self}
 use Rattle.shifting.specs.Offsets.{Whole, «PARTS»}
 use Rattle.shifting.specs.Shifting.{inserted}
 use Rattle.shifting.proofs.Whole.{whole_below}
-use Rattle.shifting.proofs.Places.{later, inserted_here, inserted_before, inserted_behind}
+use Rattle.shifting.proofs.Places.{later, inserted_here, inserted_before, inserted_behind, inserted_beyond}
 use Rattle.store.specs.Store.{Record, first, has_tag, words_at}
 use Rattle.store.specs.Found.{found}
 use Rattle.store.proofs.Found.{some_found, none_found, found_some}
 use Rattle.store.proofs.Steps.{first_holds, first_least, first_some, first_all}
 use Rattle.parts.specs.Held.{Sized}
 use Rattle.parts.specs.Parts.{Rows, begin, end, slot_of, slot_at, is_at, find_within, find, top, added, words_of, floats_of}
-use Rattle.parts.specs.Laws.{Sound, Homed, record_at, listed, record_of}
+use Rattle.parts.specs.Laws.{Sound, Homed, record_at, entry_at, listed, record_of}
 use Rattle.parts.proofs.Listing.{length_listed, listed_at}
+use Rattle.parts.proofs.Keeping.{same_entry}
 use Rattle.parts.proofs.Laws.{comes}
 use Rattle.parts.proofs.Searching.{searches}
 use Rattle.store_entry.specs.Entering.{entered, place, entry}
@@ -87,6 +88,10 @@ module _ (m : Rows) (n : ℕ) (name : Name) (u : Use) (z : Sized m) (w : Whole m
       ap (λ (r : ℕ). slot_of r (length U)) (inserted_here 0 m.slots b n (top m n) within (omega (arith, z.slots)))
       ∙ ap (slot_of (top m n)) (length-set m.units taken (words_of name u))
 
+  slot_taken : slot_at (added m n name u) b ≡ taken
+  unfolding added
+  slot_taken = slot_here
+
   words_here : words_at U (slot_of (get_or (inserted m.slots b n (top m n)) b 0) (length U)) ≡ name.words
   words_here = ap (words_at U) slot_here ∙ words_written m.units taken name u (slot_low (top m n) (length m.units) z.some)
 
@@ -114,6 +119,10 @@ module _ (m : Rows) (n : ℕ) (name : Name) (u : Use) (z : Sized m) (w : Whole m
   slot_behind : (j : ℕ) → b ≤ j → j < n → get_or (added m n name u).slots (j + 1) 0 ≡ get_or m.slots j 0
   unfolding added
   slot_behind j g h = inserted_behind 0 m.slots b n (top m n) within (omega (arith, z.slots)) j g h
+
+  place_beyond : (j : ℕ) → n < j → entry_at (added m n name u) j ≡ entry_at m j
+  unfolding added entry_at
+  place_beyond j h = same_entry _ _ _ _ (inserted_beyond 0 m.tags b n name.tag within (omega (arith, z.tags)) j h) (inserted_beyond 0 m.slots b n (top m n) within (omega (arith, z.slots)) j h)
 
   -- the records, where each slot is named once
   module _ (s : Sound m n) where
@@ -253,6 +262,8 @@ module _ (m : Rows) (tracked room : ℕ) (u : Unit) (clock : ℕ) (w : Fits m tr
         before = before m tracked N U w.sized w.whole h r;
         behind = behind m tracked N U w.sized w.whole h r;
         rows = same_rows m tracked N U w.sized w.whole h r;
+        slot = slot_taken m tracked N U w.sized w.whole h r;
+        beyond = place_beyond m tracked N U w.sized w.whole h r;
       })
 
   full : is_overflow u ≡ false → (Has m u → ⊥) → tracked ≡ room → entry m tracked room u clock ≡ entered (place room tracked) m

@@ -9,7 +9,7 @@ use Rattle.shifting.specs.Offsets.{Whole}
 use Rattle.store.specs.Store.{words_at}
 use Rattle.parts.specs.Parts.{Rows, begin, end, slot_of, slot_at, top}
 use Rattle.parts.specs.Held.{Sized}
-use Rattle.parts.specs.Laws.{Sound, Homed, record_at}
+use Rattle.parts.specs.Laws.{Sound, Homed, record_at, entry_at}
 use Rattle.store_entry.specs.Entering.{Entered, entered, place, entry}
 
 -- the name that the record of the entry at i holds
@@ -64,6 +64,9 @@ pub record Added (m : Rows) (tracked : ℕ) (u : Unit) (e : Entered) : Type 0 wh
   pub before : (j : ℕ) → j < e.place.at → Stays m e.rows tracked j j
   pub behind : (j : ℕ) → e.place.at ≤ j → j < tracked → Stays m e.rows tracked j (j + 1)
   pub rows : (slot : ℕ) → (slot ≡ slot_of (top m tracked) (length m.units) → ⊥) → SameRows m e.rows slot
+  pub slot : slot_at e.rows e.place.at ≡ slot_of (top m tracked) (length m.units)
+  -- the places of the index behind the new last entry are as they were
+  pub beyond : (j : ℕ) → tracked < j → entry_at e.rows j ≡ entry_at m j
 
 module _ (m : Rows) (tracked room : ℕ) (u : Unit) (clock : ℕ) where
   pub record Given : Type 0 where

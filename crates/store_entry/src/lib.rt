@@ -1,15 +1,17 @@
 // The record that a call uses: found, added, or overflow's; read and put back. Over the unit records table by table.
 #![tactic(auto)]
 
-ghost use Rattle.std.specs.Prelude.{◌≡◌, ◌≤◌, ◌<◌, length, IfSome, unwrap_or};
+ghost use Rattle.std.specs.Prelude.{◌≡◌, ◌≤◌, ◌<◌, ℕ, List, length, IfSome, unwrap_or};
 ghost use Rattle.std.specs.List.{SameFrom};
 ghost use Rattle.parts.specs.Held.{held, SameParts, Sized};
+ghost use Rattle.parts.specs.Parts.{rows};
 ghost use Rattle.store_entry.specs.Entering as entering;
 ghost use Rattle.shifting.specs.Offsets.{Whole};
 
 use flow::Use;
 use parts::Parts;
 use sender::Named;
+use store::{UnitRow, UseRow};
 
 // Where a unit's record is, none for overflow's; and how many there are then.
 #[derive(Clone, Copy)]
@@ -51,17 +53,33 @@ pub fn entry(parts: &mut Parts<'_>, tracked: usize, named: Named, clock: u64) ->
     Place { at: None, tracked }
 }
 
-// The use at a place: a record's, or overflow's, which a place past the records reads too. A match here and below: each arm is a
-// case of the definition.
+// The use at a place, in slices that are only read: a record's, or overflow's, which a place past the records reads too. A match here
+// and below: each arm is a case of the definition.
 #[tactic(auto, unfolding(crate::specs::Entering::used_at))]
+pub fn used_in(
+    slots: &[u32],
+    units: &[UnitRow],
+    uses: &[UseRow],
+    overflow: Use,
+    at: Option<usize>,
+) -> Use
+    requires slots_room { length units.now ≤ length slots.now }
+    requires uses_room { length units.now ≤ length uses.now }
+    ensures { (tags offsets free : List ℕ) → result
+        ≡ entering.used_at (rows tags slots.now offsets free units.now uses.now) overflow (unwrap_or at (length units.now)) }
+{
+    match at {
+        Some(i) if i < units.len() => parts::use_in(slots, units, uses, i),
+        _ => overflow,
+    }
+}
+
+// The use at a place of the records that are lent as one value.
 pub fn used_at(parts: &Parts<'_>, overflow: Use, at: Option<usize>) -> Use
     requires { Sized (held parts.now) }
     ensures { result ≡ entering.used_at (held parts.now) overflow (unwrap_or at (length parts.now.units.now)) }
 {
-    match at {
-        Some(i) if i < parts.units.len() => parts.use_at(i),
-        _ => overflow,
-    }
+    used_in(parts.slots, parts.units, parts.uses, overflow, at)
 }
 
 // The record is put back, and overflow's is then the answer.
