@@ -10,6 +10,7 @@ use Rattle.std.specs.Option.{IfSome, unwrap_or}
 use Rattle.store.specs.Found.{found}
 use Rattle.store.proofs.Found.{some_found, none_found}
 use Rattle.report_ranking.specs.Sources.{precedes, is_after, earlier, better, first_after}
+use Rattle.report_ranking.specs.Taken.{better_taken}
 
 pub after_none : (tags : List ℕ) (rows : List (List ℕ)) (n i : ℕ) → true ≡ is_after tags rows n n i
 unfolding is_after
@@ -19,26 +20,26 @@ pub after_some : (tags : List ℕ) (rows : List (List ℕ)) (n q i : ℕ) → q 
 unfolding is_after
 after_some tags rows n q i h = simp (ne_eqb q n (λ e. omega arith))
 
-module _ (tags : List ℕ) (rows : List (List ℕ)) (n p b i : ℕ) where
-  pub better_skip : is_after tags rows n p i ≡ false → b ≡ better tags rows n p b i
-  unfolding better
+module _ (by tags : List ℕ) (rows : List (List ℕ)) (n p b i : ℕ) where
+  pub better_skip : is_after tags rows n p i ≡ false → b ≡ better_taken by tags rows n p b i
+  unfolding better_taken
   better_skip e = simp e
 
-  pub better_new : is_after tags rows n p i ≡ true → b < n → precedes tags rows i b ≡ true → i ≡ better tags rows n p b i
-  unfolding better earlier
+  pub better_new : is_after tags rows n p i ≡ true → b < n → precedes by rows i b ≡ true → i ≡ better_taken by tags rows n p b i
+  unfolding better_taken earlier
   better_new e h f = simp (e, ne_eqb b n (λ q. omega arith), f)
 
-  pub better_old : b < n → precedes tags rows i b ≡ false → b ≡ better tags rows n p b i
-  unfolding better earlier
+  pub better_old : b < n → precedes by rows i b ≡ false → b ≡ better_taken by tags rows n p b i
+  unfolding better_taken earlier
   better_old h f = simp (ne_eqb b n (λ q. omega arith), f) (either (is_after tags rows n p i))
     where
       either : (t : Bool) → b ≡ cond t b b
       either true = refl
       either false = refl
 
-pub better_none : (tags : List ℕ) (rows : List (List ℕ)) (n p i : ℕ) → is_after tags rows n p i ≡ true → i ≡ better tags rows n p n i
-unfolding better earlier
-better_none tags rows n p i e = simp (e, eq-eqb n n refl)
+pub better_none : (by tags : List ℕ) (rows : List (List ℕ)) (n p i : ℕ) → is_after tags rows n p i ≡ true → i ≡ better_taken by tags rows n p n i
+unfolding better_taken earlier
+better_none by tags rows n p i e = simp (e, eq-eqb n n refl)
 
 -- a place below n, or none, is found where it is
 pub found_again : (n : ℕ) (o : Option ℕ) → IfSome o (λ i. i < n) → o ≡ found n (unwrap_or o n)

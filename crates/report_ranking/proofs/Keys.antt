@@ -142,6 +142,16 @@ pub second_key : (u v : Unit) (l : PublicKey) → ((k : PublicKey) → u ≡ Cor
 unfolding label
 second_key u v l e f = rw f (sym (key_behind l (other u e)))
 
+pub keys_same : (k l k' l' : PublicKey) → k ≡ k' → l ≡ l' → less (key_label k) (key_label l) ≡ less (key_label k') (key_label l')
+keys_same k l k' l' e f = rw (e, f) refl
+
+pub both_same : (u v u' v' : Unit) → u ≡ u' → v ≡ v' → less (label u) (label v) ≡ less (label u') (label v')
+both_same u v u' v' e f = rw (e, f) refl
+
+pub key_first : (k : PublicKey) → less (label (Corroborated k)) (label Overflow) ≡ true
+unfolding label
+key_first k = key_before k overflow
+
 -- ---- tests
 pub not_cond : (t : Bool) → not t ≡ cond t false true
 not_cond true = refl

@@ -4,19 +4,14 @@ use mathlib.Core.Bool.{Bool, true, false, false≢true}
 use mathlib.Core.Logic.{◌⊎◌, inl, inr}
 use mathlib.Core.List.{List, [], ◌∷◌}
 use Prim.Native.Nat.{ℕ, zero, suc, ◌≤◌, ◌<◌}
-use native.Mathlib.Decide.{dec_lt}
 use native.Mathlib.Omega.{arith}
 use borrow.Author.Tests.{eq-eqb, ne_eqb}
 use lib.Dec.{eqb}
 use lib.ListN.{length, get_or}
-use Rattle.report_ranking.specs.Sources.{precedes, is_after, earlier, better, first_after, named, SOURCES_REPORTED, reported}
+use Rattle.report_ranking.specs.Sources.{precedes, is_after, first_after, named, SOURCES_REPORTED, reported}
 use Rattle.report_ranking.specs.Laws.{Front}
 use Rattle.report_ranking.proofs.Ordering.{order}
-
--- b is the earliest of those among the first m that come after p, or n where none does
-data Best (tags : List ℕ) (rows : List (List ℕ)) (n p m b : ℕ) : Type 0 where
-  none : b ≡ n → ((i : ℕ) → i < m → is_after tags rows n p i ≡ false) → Best tags rows n p m b
-  some : b < m → is_after tags rows n p b ≡ true → ((i : ℕ) → i < m → is_after tags rows n p i ≡ true → (i ≡ b) ⊎ (precedes tags rows b i ≡ true)) → Best tags rows n p m b
+use Rattle.report_ranking.proofs.Earliest.{Best, none, some, best}
 
 -- l is what is named after p, up to k
 record From (tags : List ℕ) (rows : List (List ℕ)) (n k p : ℕ) (l : List ℕ) : Type 0 where
@@ -27,60 +22,7 @@ record From (tags : List ℕ) (rows : List (List ℕ)) (n k p : ℕ) (l : List �
   left_out : (i : ℕ) → i < n → is_after tags rows n p i ≡ true → ((j : ℕ) → j < length l → get_or l j 0 ≡ i → ⊥)
       → (length l ≡ k) × ((j : ℕ) → j < length l → precedes tags rows (get_or l j 0) i ≡ true)
 
--- one more place: an earlier one, or the last
-last : {A : Type 0} (i m : ℕ) → i < suc m → (i < m → A) → (i ≡ m → A) → A
-last i m h f g = elim (dec_lt i m) [ yes p ↦ f p | no p ↦ g (omega arith) ]
-
 module _ (tags : List ℕ) (rows : List (List ℕ)) (n p : ℕ) where
-  -- ---- one source looked at
-  better_skip : (b m : ℕ) → is_after tags rows n p m ≡ false → better tags rows n p b m ≡ b
-  unfolding better
-  better_skip b m e = simp e
-
-  better_first : (b m : ℕ) → is_after tags rows n p m ≡ true → b ≡ n → better tags rows n p b m ≡ m
-  unfolding better earlier
-  better_first b m e f = simp (e, eq-eqb b n f)
-
-  better_new : (b m : ℕ) → is_after tags rows n p m ≡ true → (b ≡ n → ⊥) → precedes tags rows m b ≡ true → better tags rows n p b m ≡ m
-  unfolding better earlier
-  better_new b m e f g = simp (e, ne_eqb b n f, g)
-
-  better_old : (b m : ℕ) → is_after tags rows n p m ≡ true → (b ≡ n → ⊥) → precedes tags rows m b ≡ false → better tags rows n p b m ≡ b
-  unfolding better earlier
-  better_old b m e f g = simp (e, ne_eqb b n f, g)
-
-  other : (b m : ℕ) → b < m → precedes tags rows m b ≡ false → (t : Bool) → precedes tags rows b m ≡ t → precedes tags rows b m ≡ true
-  other b m h e true f = f
-  other b m h e false f = absurd (omega (arith, (order tags rows).connected b m f e))
-
-  no_more : (m b : ℕ) → is_after tags rows n p m ≡ false → Best tags rows n p m b → Best tags rows n p (suc m) b
-  no_more m b e (none f g) = none f (λ i h. last i m h (g i) (λ q. ap (is_after tags rows n p) q ∙ e))
-  no_more m b e (some f a g) =
-      some (omega arith) a (λ i h x. last i m h (λ q. g i q x) (λ q. absurd (false≢true (sym e ∙ ap (is_after tags rows n p) (sym q) ∙ x))))
-
-  one_more : (m b : ℕ) → m < n → is_after tags rows n p m ≡ true → Best tags rows n p m b → (t : Bool) → precedes tags rows m b ≡ t → Best tags rows n p (suc m) (better tags rows n p b m)
-  one_more m b h e (none f g) t r =
-      rw (better_first b m e f) (some (omega arith) e (λ i k x. last i m k (λ q. absurd (false≢true (sym (g i q) ∙ x))) (λ q. inl q)))
-  one_more m b h e (some f a g) true r =
-      rw (better_new b m e (λ q. omega arith) r)
-      (some (omega arith) e (λ i k x. last i m k (λ q. further i (g i q x)) (λ q. inl q)))
-    where
-      further : (i : ℕ) → (i ≡ b) ⊎ (precedes tags rows b i ≡ true) → (i ≡ m) ⊎ (precedes tags rows m i ≡ true)
-      further i (inl q) = inr (ap (precedes tags rows m) q ∙ r)
-      further i (inr q) = inr ((order tags rows).transitive m b i r q)
-  one_more m b h e (some f a g) false r =
-      rw (better_old b m e (λ q. omega arith) r)
-      (some (omega arith) a (λ i k x. last i m k (λ q. g i q x) (λ q. inr (ap (precedes tags rows b) q ∙ other b m f r (precedes tags rows b m) refl))))
-
-  step : (m b : ℕ) → m < n → Best tags rows n p m b → (t : Bool) → is_after tags rows n p m ≡ t → Best tags rows n p (suc m) (better tags rows n p b m)
-  step m b h w true e = one_more m b h e w (precedes tags rows m b) refl
-  step m b h w false e = rw (better_skip b m e) (no_more m b e w)
-
-  best : (m : ℕ) → m ≤ n → Best tags rows n p m (first_after tags rows n p m)
-  unfolding first_after
-  best zero h = none refl (λ i k. absurd (omega arith))
-  best (suc m) h = step m (first_after tags rows n p m) (omega arith) (best m (omega arith)) (is_after tags rows n p m) refl
-
   -- ---- after p
   after_on : (q i : ℕ) → is_after tags rows n p q ≡ true → precedes tags rows q i ≡ true → is_after tags rows n p i ≡ true
   unfolding is_after
@@ -165,9 +107,9 @@ none_asked tags rows n p = record {
 from : (tags : List ℕ) (rows : List (List ℕ)) (n k p : ℕ) → From tags rows n k p (named tags rows n k p)
 unfolding named
 from tags rows n zero p = none_asked tags rows n p
-from tags rows n (suc k) p = by (best tags rows n p n (omega arith)) (from tags rows n k (first_after tags rows n p n))
+from tags rows n (suc k) p = by (best tags rows n p) (from tags rows n k (first_after tags rows n p n))
   where
-    by : Best tags rows n p n (first_after tags rows n p n) → From tags rows n k (first_after tags rows n p n) (named tags rows n k (first_after tags rows n p n)) → From tags rows n (suc k) p (named tags rows n (suc k) p)
+    by : Best tags tags rows n p n (first_after tags rows n p n) → From tags rows n k (first_after tags rows n p n) (named tags rows n k (first_after tags rows n p n)) → From tags rows n (suc k) p (named tags rows n (suc k) p)
     by (none e f) w = rw (named_empty tags rows n k p e) (nothing_named tags rows n (suc k) p f)
     by (some h a g) w = rw (named_cons tags rows n k p (λ e. omega arith)) (cons tags rows n k p (first_after tags rows n p n) (named tags rows n k (first_after tags rows n p n)) h a g w)
 

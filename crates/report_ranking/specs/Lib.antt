@@ -1,2 +1,3 @@
 pub mod Sources
+pub mod Taken
 pub mod Laws

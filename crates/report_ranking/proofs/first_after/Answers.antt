@@ -1,38 +1,14 @@
--- `report_ranking::first_after` meets its contract: the loop holds the earliest of those passed. Assumes nothing.
--- one more source looked at
-use Rattle.report_ranking.specs.Sources.{first_after, better}
-use native.Mathlib.Omega.{arith}
-use Prim.Native.Nat.{ℕ, ◌+◌}
-use native.Mathlib.Numerals.{add-one}
-use mathlib.Core.List.{List}
-use borrow.Author.Rules.{rules}
-use mathlib.Core.Path.{◌≡◌, refl, sym, ap, ◌∙◌}
-use Rattle.std.specs.Option.{unwrap_or}
-use Rattle.store.specs.Found.{found}
-use Rattle.report_ranking.proofs.Choosing.{found_again}
+-- `report_ranking::first_after` meets its contract: the one found by words, where it is the one by tags, or that. Assumes nothing.
+use Rattle.report_ranking.proofs.Found.{found_own, found_tagged, tagged_own}
 use Rattle.report_ranking.proofs.first_after.Goals as goal
 
-first-none : (tags : List ℕ) (rows : List (List ℕ)) (n p : ℕ) → first_after tags rows n p 0 ≡ n
-unfolding first_after
-first-none tags rows n p = refl
+pub returns-then-is_own_or_none-2-clause-value : goal.returns-then-is_own_or_none-2-clause-value
+returns-then-is_own_or_none-2-clause-value c =
+    found_own _ _ _ _ c.requires.n_in_bounds c.requires.n_in_bounds_2 _ c.first_taken-best.ensures.upper_bound
+    (c.is_own_or_none-then-is_own_or_none.ensures c.if-is_own_or_none-2.true) c.first_taken-best.ensures.value
 
-first_next : (tags : List ℕ) (rows : List (List ℕ)) (n p m : ℕ) → first_after tags rows n p (m + 1) ≡ better tags rows n p (first_after tags rows n p m) m
-unfolding first_after
-first_next tags rows n p m = rw add-one
-
-pub loop-i-init : goal.loop-i-init
-loop-i-init c = (search rules, sym (first-none _ _ _ _))
-
-pub loop-i-preserved : goal.loop-i-preserved
-loop-i-preserved c = (
-  c.better-best.ensures.upper_bound,
-  c.better-best.ensures.value
-      ∙ ap (λ (b : ℕ). better c.args.sources.now.tags.now c.args.sources.now.counted.now c.args.n (unwrap_or c.args.p c.args.n) b c.loop-i.i)
-      c.loop-i.invariant.1 ∙ sym (first_next _ _ _ _ _),
-)
+pub first_taken-requires-clause-p_own : goal.first_taken-requires-clause-p_own
+first_taken-requires-clause-p_own c = tagged_own _ _ _
 
 pub returns-clause-value : goal.returns-clause-value
-returns-clause-value c =
-    let e : c.loop-i.i ≡ c.args.n = omega arith in
-    found_again c.args.n c.loop-i.best c.loop-i.invariant.0
-    ∙ ap (found c.args.n) (c.loop-i.invariant.1 ∙ ap (first_after c.args.sources.now.tags.now c.args.sources.now.counted.now c.args.n (unwrap_or c.args.p c.args.n)) e)
+returns-clause-value c = found_tagged _ _ _ _ c.requires.n_in_bounds c.requires.n_in_bounds_2 _ c.first_taken.ensures.upper_bound c.first_taken.ensures.value
