@@ -3,13 +3,22 @@ use check_steps::{Answer, Call, Step, Tried};
 use flow::DIMS;
 use head::{Cause, Shedder};
 use std::io;
-use store::Lent;
+use store::{Lent, LentStart};
 use text::Page;
 use trial::Trial;
 use wants::{BUCKETS, Histogram};
 
 fn start(step: &Step, head: Shedder, lent: &mut Lent<'_>, histogram: &mut Histogram<'_>) -> Tried {
-    let s = head::start(head, lent, histogram, step.amounts, [0; DIMS]);
+    let mut rows = LentStart {
+        tags: &mut *lent.tags,
+        slots: &mut *lent.slots,
+        offsets: &mut *lent.offsets,
+        free: &mut *lent.free,
+        units: &mut *lent.units,
+        uses: &mut *lent.uses,
+        counted: &mut *lent.counted,
+    };
+    let s = head::start(head, &mut rows, histogram, step.amounts, [0; DIMS]);
     Tried::new(s.answer.map(|()| None), s.head)
 }
 

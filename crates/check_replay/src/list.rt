@@ -1,25 +1,32 @@
 // Standard input as lists of calls: each line of the trial's language as calls of `replay`. An R line begins a list, and each
 // W line behind it runs it.
 use crate::runs;
-use check_lines::whole_line;
 use codes::{cause_of, dim_of};
 use fair_row::{Call, Reading};
-use std::alloc::Global;
-use std::io::{self, BufRead};
-use trial_script::{Amounts, CutLine, JudgeLine, LINE_MOST, Line, StartLine, first, numbers, rest};
+use std::io::{self, Read};
+use text::Page;
+use trial_script::{
+    Amounts, CutLine, FEED, JudgeLine, LINE, LINE_MOST, Line, StartLine, first, front, numbers,
+    rest,
+};
+
+// The bytes read at once.
+const BLOCK: usize = 65536;
 
 // The calls that a list may have.
 const CALLS: usize = 4096;
 
-// The last R line, and the calls since.
+// The last R line; the calls since, in memory that is fixed, and whether one more found no room.
 #[derive(Drop)]
 struct List {
     start: StartLine,
-    calls: Vec<Call>,
+    calls: [Call; CALLS],
+    count: usize,
+    is_too_long: bool,
 }
 
 impl List {
-    fn new(alloc: Global) -> List {
+    fn new() -> List {
         let none = Amounts {
             receptions: 0,
             bytes: 0,
@@ -29,48 +36,47 @@ impl List {
                 rate: none,
                 ceiling: none,
             },
-            calls: Vec::new(alloc),
+            calls: [Call::Read(Reading::Visited); CALLS],
+            count: 0,
+            is_too_long: false,
         }
     }
 
-    // A list of one call more is too long, and is not run: no further call is kept.
-    fn is_too_long(&self) -> bool {
-        self.calls.len() > CALLS
-    }
-
-    fn begin(&mut self, start: StartLine) -> io::Result<()> {
+    fn begin(&mut self, start: StartLine) {
         self.start = start;
-        self.calls.clear();
-        Ok(())
+        self.count = 0;
+        self.is_too_long = false;
     }
 
-    fn push(&mut self, call: Call) -> io::Result<()> {
-        if !self.is_too_long() {
-            self.calls.push(call)?;
+    fn push(&mut self, call: Call) {
+        if self.count < CALLS {
+            self.calls[self.count] = call;
+            self.count += 1;
+        } else {
+            self.is_too_long = true;
         }
-        Ok(())
     }
 
-    fn judge(&mut self, j: JudgeLine) -> io::Result<()> {
+    fn judge(&mut self, j: JudgeLine) {
         self.push(Call::Judge {
             unit: j.unit,
             cost: j.cost.into(),
             stamp: j.stamp,
-        })
+        });
     }
 
-    fn cut(&mut self, c: CutLine) -> io::Result<()> {
+    fn cut(&mut self, c: CutLine) {
         self.push(Call::Cut {
             unit: c.unit,
             cause: c.cause,
             cost: c.cost.into(),
-        })
+        });
     }
 
     // A P line is a report, the call beside it, and each reading of the head; which cause or dimension is read changes with
     // the place in the list.
-    fn read_all(&mut self) -> io::Result<()> {
-        let place = self.calls.len() as u64 % 3;
+    fn read_all(&mut self) {
+        let place = self.count as u64 % 3;
         let readings = [
             Reading::Report,
             Reading::ReportBeside,
@@ -81,22 +87,21 @@ impl List {
             Reading::IsBounded,
         ];
         for reading in readings {
-            self.push(Call::Read(reading))?;
+            self.push(Call::Read(reading));
         }
-        Ok(())
     }
 
     // `N receptions bytes receptions bytes stamp`: new rates, a new ceiling and the stamp. The trial has no such line.
-    fn change(&mut self, line: &[u8]) -> io::Result<()> {
+    fn change(&mut self, line: &[u8]) {
         let Some(fields) = numbers::<5>(rest(line)) else {
-            return Ok(());
+            return;
         };
         let [receptions, bytes, most_receptions, most_bytes, stamp] = fields;
         self.push(Call::Rates {
             rate: [receptions, bytes],
             ceiling: [most_receptions, most_bytes],
             stamp,
-        })
+        });
     }
 
     // `W label from to`: the list is run with that record watched, the run being the calls from `from` to before `to`. The line
@@ -107,7 +112,7 @@ impl List {
         }
         rt.write_all(line)?;
         rt.println("")?;
-        if self.is_too_long() {
+        if self.is_too_long {
             return rt.println("the list is too long");
         }
         let fields = rest(line);
@@ -121,14 +126,16 @@ impl List {
         runs::run(
             rt,
             self.start,
-            self.calls.as_slice(),
+            self.calls.get(..self.count).unwrap_or(&self.calls),
             watched,
             from as usize,
             to as usize,
         )
     }
 
-    fn take(&mut self, rt: &impl Print, line: &[u8]) -> io::Result<()> {
+    // The line that is kept.
+    fn take(&mut self, rt: &impl Print, kept: &Page<'_>) -> io::Result<()> {
+        let line = front(kept.out, kept.at);
         if line.len() > LINE_MOST {
             return Ok(());
         }
@@ -138,24 +145,35 @@ impl List {
             Some(Line::Cut(cut)) => self.cut(cut),
             Some(Line::Report) => self.read_all(),
             None if first(line) == b"N".as_slice() => self.change(line),
-            None => self.watch(rt, line),
+            None => self.watch(rt, line)?,
         }
+        Ok(())
     }
 }
 
-// The whole input; a last line without a line end is not taken.
-pub fn run_all(rt: &impl Print, alloc: Global, reader: &mut impl BufRead) -> io::Result<()> {
-    let mut list = List::new(alloc);
-    let mut kept = Vec::new(alloc);
-    // A loop must end, and nothing says that an input does: so the lines are counted up to a number that no run reaches. std's
-    // `forever` would need a handle to wait, which this program does not take, and its lines would take a last one that has no
-    // end. Each of the three programs that read lists has this loop: a function over what is done with a line would ask that it
-    // may be called again after each call.
+// The whole input; a last line without a line end is not taken. A byte more of a line is kept than a line may have, and no further
+// one: a line may be of any length.
+pub fn run_all(rt: &impl Print, reader: &mut impl Read) -> io::Result<()> {
+    let mut list = List::new();
+    let mut kept = [0; LINE];
+    let mut line = Page::at_front(&mut kept);
+    let mut block = [0; BLOCK];
+    // A loop must end, and nothing says that an input does: so the reads are counted up to a number that no run reaches. std's
+    // `forever` would need a handle to wait, which this program does not take. Each of the three programs that read lists has this
+    // loop: a function over what is done with a byte would ask that it may be called again after each call.
     for _ in 0..u64::MAX {
-        let Some(line) = whole_line(reader, &mut kept)? else {
+        let n = reader.read(&mut block)?;
+        if n == 0 {
             break;
-        };
-        list.take(rt, line)?;
+        }
+        for &byte in &block[..n] {
+            if byte == FEED {
+                list.take(rt, &line)?;
+                line.at = 0;
+            } else {
+                line.put(&[byte]);
+            }
+        }
     }
     Ok(())
 }

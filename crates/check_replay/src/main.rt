@@ -8,9 +8,8 @@
 mod list;
 mod runs;
 
-use std::io::{self, BufReader};
+use std::io;
 
 fn main(rt: HostRuntime) -> io::Result<()> {
-    let alloc = rt.alloc();
-    list::run_all(&rt, alloc, &mut BufReader::new(alloc, rt.reader())?)
+    list::run_all(&rt, &mut rt.stdin())
 }

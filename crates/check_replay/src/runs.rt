@@ -2,9 +2,10 @@
 use fair_replay::Replayed;
 use fair_row::Call;
 use flow::DIMS;
+use head::Shedder;
 use sender::Unit;
 use std::io;
-use store::{Lent, LentRead};
+use store::{Lent, LentRead, LentStart};
 use trial::{COUNTED, REPORT, TAGS, UNITS};
 use trial_memory::Memory;
 use trial_script::{StartLine, front};
@@ -52,6 +53,31 @@ fn say_state(rt: &impl Print, r: &Replayed, m: &Memory<TAGS, UNITS, COUNTED>) ->
     rt.write_all(text)
 }
 
+// The head after a start over the memory.
+fn begun(m: &mut Memory<TAGS, UNITS, COUNTED>, start: StartLine) -> Shedder {
+    let mut rows = LentStart {
+        tags: &mut m.tags,
+        slots: &mut m.slots,
+        offsets: &mut m.offsets,
+        free: &mut m.free,
+        units: &mut m.units,
+        uses: &mut m.uses,
+        counted: &mut m.counted,
+    };
+    let mut histogram = Histogram {
+        counts: &mut m.counts,
+        sums: &mut m.sums,
+    };
+    let s = head::start(
+        trial::unstarted().head,
+        &mut rows,
+        &mut histogram,
+        start.rate.into(),
+        start.ceiling.into(),
+    );
+    s.head
+}
+
 // The shedder's memory, a start, and the list.
 pub fn run(
     rt: &impl Print,
@@ -63,6 +89,7 @@ pub fn run(
 ) -> io::Result<()> {
     let mut m = Memory::<TAGS, UNITS, COUNTED>::zeroed();
     let mut page = [0; REPORT];
+    let head = begun(&mut m, start);
     // Made here and in shedtrial: a method of `Memory` could not promise what the rows hold once they come back. (check_edges lends
     // parts of them.)
     let mut lent = Lent {
@@ -78,15 +105,8 @@ pub fn run(
         counts: &mut m.counts,
         sums: &mut m.sums,
     };
-    let begun = head::start(
-        trial::unstarted().head,
-        &mut lent,
-        &mut histogram,
-        start.rate.into(),
-        start.ceiling.into(),
-    );
     let replayed = fair_replay::replay(
-        begun.head,
+        head,
         &mut lent,
         &mut histogram,
         watched,

@@ -3,10 +3,16 @@
 // 11 bits, and its label, which is read back too.
 #![tactic(auto)]
 
-use label::Label;
+use label::{LABEL_MOST, Label};
 use sender::{Unit, Words};
-use std::alloc::Global;
-use std::io::{self, BufRead, BufReader};
+use std::io::{self, Read};
+use text::Page;
+
+// The numbers in front of a line's label.
+const NUMBERS: usize = 7;
+
+// The bytes read at once.
+const BLOCK: usize = 4096;
 
 // How many were compared, how many agreed, and the number of the first that did not.
 #[derive(Drop)]
@@ -35,78 +41,87 @@ impl Tally {
     }
 }
 
-// A line of the list.
+// The line so far: its numbers, its label, and which of the eight the next byte belongs to. Of the label a byte more is kept than a
+// label may have, and no further one: a line may be of any length.
 #[derive(Drop)]
-struct Listed<'a> {
-    words: Words,
-    table: u64,
-    hash: u64,
-    label: &'a [u8],
+struct Line<'a> {
+    numbers: [u64; NUMBERS],
+    label: Page<'a>,
+    at: usize,
 }
 
-// A hexadecimal number in lower case: std's reading takes capital letters and a sign too.
-fn number(digits: &str) -> Option<u64> {
-    if !digits
-        .bytes()
-        .all(|x| matches!(x, b'0'..=b'9' | b'a'..=b'f'))
-    {
-        return None;
+// The value of a hexadecimal digit in lower case; any other byte counts as 0.
+fn digit(byte: u8) -> u64 {
+    u64::from(match byte {
+        b'0'..=b'9' => byte - b'0',
+        b'a'..=b'f' => byte - b'a' + 10,
+        _ => 0,
+    })
+}
+
+impl<'a> Line<'a> {
+    fn new(label: &'a mut [u8]) -> Line<'a> {
+        Line {
+            numbers: [0; NUMBERS],
+            label: Page::at_front(label),
+            at: 0,
+        }
     }
-    u64::from_str_radix(digits, 16).ok()
-}
 
-impl<'a> Listed<'a> {
-    // A line of another form is no unit.
-    fn parse(line: &'a str) -> Option<Listed<'a>> {
-        let mut fields = line.split(' ');
-        let listed = Listed {
-            words: Words {
-                kind: number(fields.next()?)?,
-                a: number(fields.next()?)?,
-                b: number(fields.next()?)?,
-                c: number(fields.next()?)?,
-                d: number(fields.next()?)?,
-            },
-            table: number(fields.next()?)?,
-            hash: number(fields.next()?)?,
-            label: fields.next()?.as_bytes(),
-        };
-        match fields.next() {
-            None => Some(listed),
-            Some(_) => None,
+    fn clear(&mut self) {
+        self.numbers = [0; NUMBERS];
+        self.label.at = 0;
+        self.at = 0;
+    }
+
+    // A byte that does not end the line. A number is kept modulo 2^64.
+    fn take(&mut self, byte: u8) {
+        let at = self.at;
+        if byte == b' ' {
+            if at <= NUMBERS {
+                self.at = at + 1;
+            }
+        } else if at < NUMBERS {
+            self.numbers[at] = self.numbers[at].wrapping_mul(16).wrapping_add(digit(byte));
+        } else if at == NUMBERS {
+            self.label.put(&[byte]);
         }
     }
 
     // Whether the unit has the table, the hash and the label that the line says, and the label is read as the unit.
     fn agrees(&self) -> bool {
-        let unit = Unit::from(self.words);
-        sender::table_of(unit) as u64 == self.table
-            && sender::hash_of(unit) >> 11 == self.hash
-            && Label::of(unit).as_bytes() == self.label
-            && label_parse::parse(self.label) == Some(unit)
+        let [kind, a, b, c, d, table, hash] = self.numbers;
+        let unit = Unit::from(Words { kind, a, b, c, d });
+        let label = self.label.out.get(..self.label.at).unwrap_or(&[]);
+        self.at == NUMBERS
+            && sender::table_of(unit) as u64 == table
+            && sender::hash_of(unit) >> 11 == hash
+            && Label::of(unit).as_bytes() == label
+            && label_parse::parse(label) == Some(unit)
     }
 }
 
-fn agrees(line: &[u8]) -> bool {
-    std::str::from_utf8(line)
-        .ok()
-        .and_then(Listed::parse)
-        .is_some_and(|listed| listed.agrees())
-}
-
-// The lines of the list; one that has another form does not agree.
-fn read_list(alloc: Global, reader: &mut impl BufRead) -> io::Result<Tally> {
+// The lines of the list; a last one that has no line end is not taken.
+fn read_list(reader: &mut impl Read) -> io::Result<Tally> {
     let mut tally = Tally::new();
-    let mut kept = Vec::new(alloc);
-    // A loop must end, and nothing says that an input does: so the lines are counted up to a number that no run reaches. std's
-    // `forever` would need a handle to wait, which this program does not take, and its lines would take a last one that has no
-    // end. Each of the three programs that read lists has this loop: a function over what is done with a line would ask that it
-    // may be called again after each call.
+    let mut label = [0; LABEL_MOST + 1];
+    let mut line = Line::new(&mut label);
+    let mut block = [0; BLOCK];
+    // A loop must end, and nothing says that an input does: so the reads are counted up to a number that no run reaches, as in the
+    // other programs that read lists.
     for _ in 0..u64::MAX {
-        let Some(line) = check_lines::whole_line(reader, &mut kept)? else {
+        let n = reader.read(&mut block)?;
+        if n == 0 {
             break;
-        };
-        tally.count(agrees(line));
+        }
+        for &byte in &block[..n] {
+            if byte == b'\n' {
+                tally.count(line.agrees());
+                line.clear();
+            } else {
+                line.take(byte);
+            }
+        }
     }
     Ok(tally)
 }
@@ -143,11 +158,6 @@ fn print(rt: &impl Print, t: &Tally, what: &str) -> io::Result<()> {
 }
 
 fn main(rt: HostRuntime) -> io::Result<()> {
-    let alloc = rt.alloc();
     print(&rt, &vectors(), "vectors")?;
-    print(
-        &rt,
-        &read_list(alloc, &mut BufReader::new(alloc, rt.reader())?)?,
-        "units",
-    )
+    print(&rt, &read_list(&mut rt.stdin())?, "units")
 }

@@ -4,7 +4,6 @@ use crate::{COUNTED, UNITS};
 use flow::{DIMS, RATE_MOST};
 use head::{STAMP_END, Shedder};
 use sender::{Group, Unit};
-use std::alloc::{AllocError, Global};
 use store::OFFSETS;
 use trial_script::LINE_MOST;
 
@@ -97,6 +96,9 @@ pub struct Step {
     pub stamp: u64,
     pub says: Says,
 }
+
+// Room for all steps.
+const STEPS_MOST: usize = 300;
 
 impl Fault {
     // The head with that part made unfit.
@@ -284,15 +286,44 @@ impl Step {
     }
 }
 
+// The steps, in order, in memory that is fixed: the program takes none of the heap.
+#[derive(Drop)]
+pub struct Steps {
+    steps: [Step; STEPS_MOST],
+    count: usize,
+}
+
+impl Steps {
+    fn new() -> Steps {
+        Steps {
+            steps: [Step::start(0); STEPS_MOST],
+            count: 0,
+        }
+    }
+
+    fn extend_from_slice(&mut self, steps: &[Step]) {
+        for step in steps {
+            if self.count < STEPS_MOST {
+                self.steps[self.count] = *step;
+                self.count += 1;
+            }
+        }
+    }
+
+    pub fn as_slice(&self) -> &[Step] {
+        self.steps.get(..self.count).unwrap_or(&self.steps)
+    }
+}
+
 // A whole scan is a judgement made 32 times: what is said is said of the last.
-fn scan(steps: &mut Vec<Step>, stamp: u64, says: Says) -> Result<(), AllocError> {
+fn scan(steps: &mut Steps, stamp: u64, says: Says) {
     let judge = Step::judge(0, stamp);
-    steps.extend_from_slice(&[judge; 31])?;
-    steps.extend_from_slice(&[judge.says(says)])
+    steps.extend_from_slice(&[judge; 31]);
+    steps.extend_from_slice(&[judge.says(says)]);
 }
 
 // The cases that are run: the fresh verdict, the rates, idle, age, scans.
-fn cases(steps: &mut Vec<Step>) -> Result<(), AllocError> {
+fn cases(steps: &mut Steps) {
     let start = Step::start(10);
     steps.extend_from_slice(&[
         start,
@@ -309,20 +340,20 @@ fn cases(steps: &mut Vec<Step>) -> Result<(), AllocError> {
         Step::judge(30, 2000).says(Says::OfIdle),
         start,
         Step::judge(0, 0).of_group(),
-    ])?;
-    scan(steps, 8000, Says::Active)?;
-    steps.extend_from_slice(&[start, Step::judge(0, 0).of_group()])?;
-    scan(steps, 8001, Says::Active)?;
-    steps.extend_from_slice(&[start])?;
-    scan(steps, 1000, Says::Visits)?;
+    ]);
+    scan(steps, 8000, Says::Active);
+    steps.extend_from_slice(&[start, Step::judge(0, 0).of_group()]);
+    scan(steps, 8001, Says::Active);
+    steps.extend_from_slice(&[start]);
+    scan(steps, 1000, Says::Visits);
     steps.extend_from_slice(&[
         Step::judge(0, 1499).says(Says::Visits),
         Step::judge(0, 1500).says(Says::Visits),
-    ])
+    ]);
 }
 
 // Two judgements, a cut and a histogram with no word 0, for the calls refused.
-fn ready(steps: &mut Vec<Step>) -> Result<(), AllocError> {
+fn ready(steps: &mut Steps) {
     steps.extend_from_slice(&[
         Step::start(10),
         Step::judge(5, 1000),
@@ -333,7 +364,7 @@ fn ready(steps: &mut Vec<Step>) -> Result<(), AllocError> {
 }
 
 // Too little or too uneven memory, for question 4.
-fn lent_unfit(steps: &mut Vec<Step>, call: Call) -> Result<(), AllocError> {
+fn lent_unfit(steps: &mut Steps, call: Call) {
     let step = Step::refused(call);
     steps.extend_from_slice(&[
         step.lent(6, 4, 4, 3),
@@ -342,20 +373,20 @@ fn lent_unfit(steps: &mut Vec<Step>, call: Call) -> Result<(), AllocError> {
         step.lent(6, 4, 4, 2),
         step.slots(3, 4),
         step.slots(4, 3),
-    ])
+    ]);
 }
 
 // Costs too high, for question 5.
-fn cost_unfit(steps: &mut Vec<Step>, call: Call) -> Result<(), AllocError> {
+fn cost_unfit(steps: &mut Steps, call: Call) {
     let step = Step::refused(call);
     steps.extend_from_slice(&[
         step.amounts(RATE_MOST + 1, 1),
         step.amounts(1, RATE_MOST + 1),
-    ])
+    ]);
 }
 
 // Questions 1 and 2.
-fn starts_refused(steps: &mut Vec<Step>) -> Result<(), AllocError> {
+fn starts_refused(steps: &mut Steps) {
     let start = Step::refused(Call::Start);
     steps.extend_from_slice(&[
         start.amounts(0, 1),
@@ -371,63 +402,61 @@ fn starts_refused(steps: &mut Vec<Step>) -> Result<(), AllocError> {
         start.lent(3, 0, 0, 3),
         start.lent(5, 4, 4, 1),
         start.lent(0, 0, 0, 0).amounts(0, 0),
-    ])
+    ]);
 }
 
 // Questions 3 to 6. Where a step is unfit in more than one way, the first question gives the number.
-fn judgements_refused(steps: &mut Vec<Step>) -> Result<(), AllocError> {
+fn judgements_refused(steps: &mut Steps) {
     let judge = Step::refused(Call::Judge);
     for fault in FAULTS {
-        steps.extend_from_slice(&[judge.fault(fault)])?;
+        steps.extend_from_slice(&[judge.fault(fault)]);
     }
-    lent_unfit(steps, Call::Judge)?;
-    cost_unfit(steps, Call::Judge)?;
+    lent_unfit(steps, Call::Judge);
+    cost_unfit(steps, Call::Judge);
     let above = judge.amounts(RATE_MOST + 1, RATE_MOST + 1).stamp(STAMP_END);
     steps.extend_from_slice(&[
         judge.stamp(STAMP_END),
         above.lent(6, 4, 4, 3).fault(Fault::RateZero),
         above.lent(6, 4, 4, 3),
         above,
-    ])
+    ]);
 }
 
 // Questions 3 to 5.
-fn cuts_refused(steps: &mut Vec<Step>) -> Result<(), AllocError> {
+fn cuts_refused(steps: &mut Steps) {
     let cut = Step::refused(Call::Cut);
-    steps.extend_from_slice(&[cut.fault(Fault::RateZero), cut.fault(Fault::OffsetsFall)])?;
-    lent_unfit(steps, Call::Cut)?;
-    cost_unfit(steps, Call::Cut)
+    steps.extend_from_slice(&[cut.fault(Fault::RateZero), cut.fault(Fault::OffsetsFall)]);
+    lent_unfit(steps, Call::Cut);
+    cost_unfit(steps, Call::Cut);
 }
 
 // Questions 3, 4 and 7, by each of the report's calls: the report has 135 bytes here.
-fn reports_refused(steps: &mut Vec<Step>) -> Result<(), AllocError> {
+fn reports_refused(steps: &mut Steps) {
     for call in [Call::Report, Call::WriteReport, Call::ReportRefusal] {
         let step = Step::refused(call);
-        steps.extend_from_slice(&[step.fault(Fault::RateZero), step.fault(Fault::OffsetsFall)])?;
-        lent_unfit(steps, call)?;
+        steps.extend_from_slice(&[step.fault(Fault::RateZero), step.fault(Fault::OffsetsFall)]);
+        lent_unfit(steps, call);
         let short = step.buffer(134);
-        steps.extend_from_slice(&[short, short.lent(6, 4, 4, 3).fault(Fault::RateZero)])?;
+        steps.extend_from_slice(&[short, short.lent(6, 4, 4, 3).fault(Fault::RateZero)]);
     }
-    Ok(())
 }
 
 // Question 3.
-fn readings_refused(steps: &mut Vec<Step>) -> Result<(), AllocError> {
+fn readings_refused(steps: &mut Steps) {
     for read in READS {
         let step = Step::refused(Call::Reading(read));
-        steps.extend_from_slice(&[step.fault(Fault::RateZero), step.fault(Fault::OffsetsFall)])?;
+        steps.extend_from_slice(&[step.fault(Fault::RateZero), step.fault(Fault::OffsetsFall)]);
     }
-    Ok(())
 }
 
 // Questions 3, 4, 1, 6 and 10, the last also of a relay that is not bounded.
-fn rates_refused(steps: &mut Vec<Step>) -> Result<(), AllocError> {
+fn rates_refused(steps: &mut Steps) {
     let rates = Step::refused(Call::Rates);
     steps.extend_from_slice(&[
         rates.fault(Fault::RateZero),
         rates.fault(Fault::OffsetsFall),
-    ])?;
-    lent_unfit(steps, Call::Rates)?;
+    ]);
+    lent_unfit(steps, Call::Rates);
     let above = rates.amounts(0, 1).stamp(STAMP_END).lent(6, 4, 4, 3);
     steps.extend_from_slice(&[
         above.fault(Fault::RateZero),
@@ -440,37 +469,35 @@ fn rates_refused(steps: &mut Vec<Step>) -> Result<(), AllocError> {
         Step::start(u64::MAX),
         rates.stamp(STAMP_END),
         rates,
-    ])
+    ]);
 }
 
 // The report into a buffer of just its bytes, of one more and of 4,096.
-fn reports_written(steps: &mut Vec<Step>) -> Result<(), AllocError> {
+fn reports_written(steps: &mut Steps) {
     for call in [Call::Report, Call::WriteReport] {
         let step = Step::refused(call).says(Says::Written);
-        steps.extend_from_slice(&[step.buffer(135), step.buffer(136), step.buffer(4096)])?;
+        steps.extend_from_slice(&[step.buffer(135), step.buffer(136), step.buffer(4096)]);
     }
-    Ok(())
 }
 
-fn lines_refused(steps: &mut Vec<Step>) -> Result<(), AllocError> {
+fn lines_refused(steps: &mut Steps) {
     for line in LINES {
-        steps.extend_from_slice(&[Step::refused(line).buffer(40).says(Says::Line)])?;
+        steps.extend_from_slice(&[Step::refused(line).buffer(40).says(Says::Line)]);
     }
-    Ok(())
 }
 
 // All of them, in order.
-pub fn all_steps(alloc: Global) -> Result<Vec<Step>, AllocError> {
-    let mut steps = Vec::new(alloc);
-    cases(&mut steps)?;
-    ready(&mut steps)?;
-    starts_refused(&mut steps)?;
-    judgements_refused(&mut steps)?;
-    cuts_refused(&mut steps)?;
-    reports_refused(&mut steps)?;
-    readings_refused(&mut steps)?;
-    reports_written(&mut steps)?;
-    lines_refused(&mut steps)?;
-    rates_refused(&mut steps)?;
-    Ok(steps)
+pub fn all_steps() -> Steps {
+    let mut steps = Steps::new();
+    cases(&mut steps);
+    ready(&mut steps);
+    starts_refused(&mut steps);
+    judgements_refused(&mut steps);
+    cuts_refused(&mut steps);
+    reports_refused(&mut steps);
+    readings_refused(&mut steps);
+    reports_written(&mut steps);
+    lines_refused(&mut steps);
+    rates_refused(&mut steps);
+    steps
 }

@@ -6,9 +6,23 @@
 ghost use Rattle.std.specs.Prelude.{◌<◌};
 
 use flow::DIMS;
-use std::alloc::Global;
-use std::io::{self, BufRead, BufReader};
+use std::io::{self, Read};
 use wants::{BUCKETS, Counts, Histogram, Sums};
+
+// The bytes read at once.
+const BLOCK: usize = 65536;
+
+// The largest number that has room for one decimal digit more.
+const ROOM: u64 = u64::MAX / 10 - 1;
+
+// The line so far: its letter, which field the next digit belongs to (the first stands behind the first space), and the fields. Its
+// bytes are not kept, since a line may be of any length.
+#[derive(Clone, Copy)]
+struct Line {
+    letter: u8,
+    at: usize,
+    fields: [u64; 4],
+}
 
 // A line that has its form.
 #[derive(Drop)]
@@ -35,14 +49,16 @@ enum Entry {
     },
 }
 
-// What the lines so far came to: the histogram, how many buckets and levels agree, and the number of the first line that does not.
+// The line that is read, and what the lines before it came to: the histogram, how many buckets and levels agree, and the number of the
+// first line that does not.
 #[derive(Drop)]
 struct Replay {
+    line: Line,
+    number: u64,
     counts: Counts,
     sums: Sums,
     buckets: u64,
     levels: u64,
-    line: u64,
     differs: Option<u64>,
 }
 
@@ -66,51 +82,77 @@ fn bits_of(x: f64) -> u64 {
     if x.is_nan() { NAN } else { x.to_bits() }
 }
 
-fn double(field: &str) -> Option<f64> {
-    field.parse().ok().map(double_of)
-}
+impl Line {
+    fn blank() -> Line {
+        Line {
+            letter: 0,
+            at: 0,
+            fields: [0; 4],
+        }
+    }
 
-impl Entry {
-    fn parse(line: &str) -> Option<Entry> {
-        let mut fields = line.split(' ');
-        let entry = match fields.next()? {
-            "B" => Entry::Bucket {
-                want: double(fields.next()?)?,
-                bucket: fields.next()?.parse().ok()?,
+    // A digit more of a field; whether it has one that has room.
+    fn digit(&mut self, value: u8) -> bool
+        requires { value < 10 }
+    {
+        let Some(place) = self.at.checked_sub(1) else {
+            return false;
+        };
+        if place >= self.fields.len() || self.fields[place] > ROOM {
+            return false;
+        }
+        self.fields[place] = 10 * self.fields[place] + u64::from(value);
+        true
+    }
+
+    // A byte that does not end the line; whether it may stand there. Of several letters the last counts.
+    fn take(&mut self, byte: u8) -> bool {
+        match byte {
+            b' ' => self.at = self.at.wrapping_add(1),
+            b'0'..=b'9' => return self.digit(byte - b'0'),
+            _ => self.letter = byte,
+        }
+        true
+    }
+
+    // A field that is missing is 0, and one too many is passed over.
+    fn entry(&self) -> Option<Entry> {
+        let [first, second, third, fourth] = self.fields;
+        Some(match self.letter {
+            b'B' => Entry::Bucket {
+                want: double_of(first),
+                bucket: second,
             },
-            "C" => Entry::Clear,
-            "A" => Entry::Add {
-                dim: fields.next()?.parse().ok()?,
-                want: double(fields.next()?)?,
+            b'C' => Entry::Clear,
+            b'A' => Entry::Add {
+                dim: first as usize,
+                want: double_of(second),
             },
-            "S" => Entry::Set {
-                dim: fields.next()?.parse().ok()?,
-                bucket: fields.next()?.parse().ok()?,
-                count: fields.next()?.parse().ok()?,
-                sum: double(fields.next()?)?,
+            b'S' => Entry::Set {
+                dim: first as usize,
+                bucket: second as usize,
+                count: u32::try_from(third).ok()?,
+                sum: double_of(fourth),
             },
-            "L" => Entry::Level {
-                dim: fields.next()?.parse().ok()?,
-                rate: double(fields.next()?)?,
-                level: fields.next()?.parse().ok()?,
+            b'L' => Entry::Level {
+                dim: first as usize,
+                rate: double_of(second),
+                level: third,
             },
             _ => return None,
-        };
-        match fields.next() {
-            None => Some(entry),
-            Some(_) => None,
-        }
+        })
     }
 }
 
 impl Replay {
     fn new() -> Self {
         Self {
+            line: Line::blank(),
+            number: 1,
             counts: [[0; BUCKETS]; DIMS],
             sums: [[0.0; BUCKETS]; DIMS],
             buckets: 0,
             levels: 0,
-            line: 0,
             differs: None,
         }
     }
@@ -154,31 +196,36 @@ impl Replay {
         }
     }
 
-    // One more line; one that has no form does not agree.
-    fn take(&mut self, line: &[u8]) {
-        self.line = self.line.wrapping_add(1);
-        let agrees = std::str::from_utf8(line)
-            .ok()
-            .and_then(Entry::parse)
-            .is_some_and(|entry| self.done(entry));
+    // A line that has no form does not agree, nor one with a byte that may not stand there, even where it has no line end.
+    fn take(&mut self, byte: u8) {
+        let agrees = if byte == b'\n' {
+            self.line.entry().is_some_and(|entry| self.done(entry))
+        } else {
+            self.line.take(byte)
+        };
         if !agrees {
-            self.differs = self.differs.or(Some(self.line));
+            self.differs = self.differs.or(Some(self.number));
+        }
+        if byte == b'\n' {
+            self.line = Line::blank();
+            self.number = self.number.wrapping_add(1);
         }
     }
 }
 
-fn replayed(alloc: Global, reader: &mut impl BufRead) -> io::Result<Replay> {
+// A loop must end, and nothing says that an input does: so the reads are counted up to a number that no run reaches, as in the other
+// programs that read lists.
+fn replayed(reader: &mut impl Read) -> io::Result<Replay> {
     let mut replay = Replay::new();
-    let mut kept = Vec::new(alloc);
-    // A loop must end, and nothing says that an input does: so the lines are counted up to a number that no run reaches. std's
-    // `forever` would need a handle to wait, which this program does not take, and its lines would take a last one that has no
-    // end. Each of the three programs that read lists has this loop: a function over what is done with a line would ask that it
-    // may be called again after each call.
+    let mut block = [0; BLOCK];
     for _ in 0..u64::MAX {
-        let Some(line) = check_lines::whole_line(reader, &mut kept)? else {
+        let n = reader.read(&mut block)?;
+        if n == 0 {
             break;
-        };
-        replay.take(line);
+        }
+        for &byte in &block[..n] {
+            replay.take(byte);
+        }
     }
     Ok(replay)
 }
@@ -194,7 +241,5 @@ fn report(rt: &impl Print, replay: &Replay) -> io::Result<()> {
 }
 
 fn main(rt: HostRuntime) -> io::Result<()> {
-    let alloc = rt.alloc();
-    let replay = replayed(alloc, &mut BufReader::new(alloc, rt.reader())?)?;
-    report(&rt, &replay)
+    report(&rt, &replayed(&mut rt.stdin())?)
 }
