@@ -11,7 +11,9 @@ fn main(rt: HostRuntime) -> io::Result<()> {
     check_steps::run(&rt)?;
     let mut memory = check_steps::filled();
     let mut head = trial::unstarted().head;
-    for step in check_steps::all_steps().as_slice() {
+    let mut room = check_steps::room();
+    let steps = check_steps::all_steps(&mut room);
+    for step in steps.as_slice() {
         let tried = lent::tried(&rt, step, step.fault.made(head), &mut memory)?;
         head = check_steps::tell(&rt, step, head, &tried)?;
     }

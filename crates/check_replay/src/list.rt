@@ -16,17 +16,17 @@ const BLOCK: usize = 65536;
 // The calls that a list may have.
 const CALLS: usize = 4096;
 
-// The last R line; the calls since, in memory that is fixed, and whether one more found no room.
+// The last R line; the calls since, at the front of lent memory, and whether one more found no room.
 #[derive(Drop)]
-struct List {
+struct List<'a> {
     start: StartLine,
-    calls: [Call; CALLS],
+    calls: &'a mut [Call],
     count: usize,
     is_too_long: bool,
 }
 
-impl List {
-    fn new() -> List {
+impl<'a> List<'a> {
+    fn new(calls: &'a mut [Call]) -> List<'a> {
         let none = Amounts {
             receptions: 0,
             bytes: 0,
@@ -36,7 +36,7 @@ impl List {
                 rate: none,
                 ceiling: none,
             },
-            calls: [Call::Read(Reading::Visited); CALLS],
+            calls,
             count: 0,
             is_too_long: false,
         }
@@ -49,7 +49,7 @@ impl List {
     }
 
     fn push(&mut self, call: Call) {
-        if self.count < CALLS {
+        if self.count < self.calls.len() {
             self.calls[self.count] = call;
             self.count += 1;
         } else {
@@ -126,7 +126,7 @@ impl List {
         runs::run(
             rt,
             self.start,
-            self.calls.get(..self.count).unwrap_or(&self.calls),
+            self.calls.get(..self.count).unwrap_or(&[]),
             watched,
             from as usize,
             to as usize,
@@ -154,7 +154,8 @@ impl List {
 // The whole input; a last line without a line end is not taken. A byte more of a line is kept than a line may have, and no further
 // one: a line may be of any length.
 pub fn run_all(rt: &impl Print, reader: &mut impl Read) -> io::Result<()> {
-    let mut list = List::new();
+    let mut calls = [Call::Read(Reading::Visited); CALLS];
+    let mut list = List::new(&mut calls);
     let mut kept = [0; LINE];
     let mut line = Page::at_front(&mut kept);
     let mut block = [0; BLOCK];

@@ -14,7 +14,7 @@ use head::{Refusal, Shedder};
 pub use proved::run;
 pub use readers::reading;
 pub use same::{is_as_before, same_head};
-pub use steps::{Call, Fault, Read, Step, Steps, all_steps};
+pub use steps::{Call, Fault, Read, Step, Steps, all_steps, room};
 use store::OFFSETS;
 pub use tells::{line, tell};
 use verdict::Verdict;

@@ -97,8 +97,8 @@ pub struct Step {
     pub says: Says,
 }
 
-// Room for all steps.
-const STEPS_MOST: usize = 300;
+// The steps are at most so many.
+pub const STEPS_MOST: usize = 300;
 
 impl Fault {
     // The head with that part made unfit.
@@ -286,24 +286,22 @@ impl Step {
     }
 }
 
-// The steps, in order, in memory that is fixed: the program takes none of the heap.
+// Room for all steps, in the program's own memory: it takes none of the heap.
+pub fn room() -> [Step; STEPS_MOST] {
+    [Step::start(0); STEPS_MOST]
+}
+
+// The steps, in order, at the front of lent memory.
 #[derive(Drop)]
-pub struct Steps {
-    steps: [Step; STEPS_MOST],
+pub struct Steps<'a> {
+    steps: &'a mut [Step],
     count: usize,
 }
 
-impl Steps {
-    fn new() -> Steps {
-        Steps {
-            steps: [Step::start(0); STEPS_MOST],
-            count: 0,
-        }
-    }
-
+impl Steps<'_> {
     fn extend_from_slice(&mut self, steps: &[Step]) {
         for step in steps {
-            if self.count < STEPS_MOST {
+            if self.count < self.steps.len() {
                 self.steps[self.count] = *step;
                 self.count += 1;
             }
@@ -311,19 +309,19 @@ impl Steps {
     }
 
     pub fn as_slice(&self) -> &[Step] {
-        self.steps.get(..self.count).unwrap_or(&self.steps)
+        self.steps.get(..self.count).unwrap_or(&[])
     }
 }
 
 // A whole scan is a judgement made 32 times: what is said is said of the last.
-fn scan(steps: &mut Steps, stamp: u64, says: Says) {
+fn scan(steps: &mut Steps<'_>, stamp: u64, says: Says) {
     let judge = Step::judge(0, stamp);
     steps.extend_from_slice(&[judge; 31]);
     steps.extend_from_slice(&[judge.says(says)]);
 }
 
 // The cases that are run: the fresh verdict, the rates, idle, age, scans.
-fn cases(steps: &mut Steps) {
+fn cases(steps: &mut Steps<'_>) {
     let start = Step::start(10);
     steps.extend_from_slice(&[
         start,
@@ -353,7 +351,7 @@ fn cases(steps: &mut Steps) {
 }
 
 // Two judgements, a cut and a histogram with no word 0, for the calls refused.
-fn ready(steps: &mut Steps) {
+fn ready(steps: &mut Steps<'_>) {
     steps.extend_from_slice(&[
         Step::start(10),
         Step::judge(5, 1000),
@@ -364,7 +362,7 @@ fn ready(steps: &mut Steps) {
 }
 
 // Too little or too uneven memory, for question 4.
-fn lent_unfit(steps: &mut Steps, call: Call) {
+fn lent_unfit(steps: &mut Steps<'_>, call: Call) {
     let step = Step::refused(call);
     steps.extend_from_slice(&[
         step.lent(6, 4, 4, 3),
@@ -377,7 +375,7 @@ fn lent_unfit(steps: &mut Steps, call: Call) {
 }
 
 // Costs too high, for question 5.
-fn cost_unfit(steps: &mut Steps, call: Call) {
+fn cost_unfit(steps: &mut Steps<'_>, call: Call) {
     let step = Step::refused(call);
     steps.extend_from_slice(&[
         step.amounts(RATE_MOST + 1, 1),
@@ -386,7 +384,7 @@ fn cost_unfit(steps: &mut Steps, call: Call) {
 }
 
 // Questions 1 and 2.
-fn starts_refused(steps: &mut Steps) {
+fn starts_refused(steps: &mut Steps<'_>) {
     let start = Step::refused(Call::Start);
     steps.extend_from_slice(&[
         start.amounts(0, 1),
@@ -406,7 +404,7 @@ fn starts_refused(steps: &mut Steps) {
 }
 
 // Questions 3 to 6. Where a step is unfit in more than one way, the first question gives the number.
-fn judgements_refused(steps: &mut Steps) {
+fn judgements_refused(steps: &mut Steps<'_>) {
     let judge = Step::refused(Call::Judge);
     for fault in FAULTS {
         steps.extend_from_slice(&[judge.fault(fault)]);
@@ -423,7 +421,7 @@ fn judgements_refused(steps: &mut Steps) {
 }
 
 // Questions 3 to 5.
-fn cuts_refused(steps: &mut Steps) {
+fn cuts_refused(steps: &mut Steps<'_>) {
     let cut = Step::refused(Call::Cut);
     steps.extend_from_slice(&[cut.fault(Fault::RateZero), cut.fault(Fault::OffsetsFall)]);
     lent_unfit(steps, Call::Cut);
@@ -431,7 +429,7 @@ fn cuts_refused(steps: &mut Steps) {
 }
 
 // Questions 3, 4 and 7, by each of the report's calls: the report has 135 bytes here.
-fn reports_refused(steps: &mut Steps) {
+fn reports_refused(steps: &mut Steps<'_>) {
     for call in [Call::Report, Call::WriteReport, Call::ReportRefusal] {
         let step = Step::refused(call);
         steps.extend_from_slice(&[step.fault(Fault::RateZero), step.fault(Fault::OffsetsFall)]);
@@ -442,7 +440,7 @@ fn reports_refused(steps: &mut Steps) {
 }
 
 // Question 3.
-fn readings_refused(steps: &mut Steps) {
+fn readings_refused(steps: &mut Steps<'_>) {
     for read in READS {
         let step = Step::refused(Call::Reading(read));
         steps.extend_from_slice(&[step.fault(Fault::RateZero), step.fault(Fault::OffsetsFall)]);
@@ -450,7 +448,7 @@ fn readings_refused(steps: &mut Steps) {
 }
 
 // Questions 3, 4, 1, 6 and 10, the last also of a relay that is not bounded.
-fn rates_refused(steps: &mut Steps) {
+fn rates_refused(steps: &mut Steps<'_>) {
     let rates = Step::refused(Call::Rates);
     steps.extend_from_slice(&[
         rates.fault(Fault::RateZero),
@@ -473,22 +471,25 @@ fn rates_refused(steps: &mut Steps) {
 }
 
 // The report into a buffer of just its bytes, of one more and of 4,096.
-fn reports_written(steps: &mut Steps) {
+fn reports_written(steps: &mut Steps<'_>) {
     for call in [Call::Report, Call::WriteReport] {
         let step = Step::refused(call).says(Says::Written);
         steps.extend_from_slice(&[step.buffer(135), step.buffer(136), step.buffer(4096)]);
     }
 }
 
-fn lines_refused(steps: &mut Steps) {
+fn lines_refused(steps: &mut Steps<'_>) {
     for line in LINES {
         steps.extend_from_slice(&[Step::refused(line).buffer(40).says(Says::Line)]);
     }
 }
 
 // All of them, in order.
-pub fn all_steps() -> Steps {
-    let mut steps = Steps::new();
+pub fn all_steps(room: &mut [Step]) -> Steps<'_> {
+    let mut steps = Steps {
+        steps: room,
+        count: 0,
+    };
     cases(&mut steps);
     ready(&mut steps);
     starts_refused(&mut steps);

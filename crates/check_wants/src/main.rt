@@ -10,7 +10,7 @@ use std::io::{self, Read};
 use wants::{BUCKETS, Counts, Histogram, Sums};
 
 // The bytes read at once.
-const BLOCK: usize = 65536;
+const BLOCK: usize = 16384;
 
 // The largest number that has room for one decimal digit more.
 const ROOM: u64 = u64::MAX / 10 - 1;
