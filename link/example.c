@@ -45,9 +45,9 @@ static void judged(struct tankpost_judged j) {
 
 static void start(uint64_t ceiling_of_receptions) {
     const uint64_t rate[] = {10, 1000}, ceiling[] = {ceiling_of_receptions, 0};
-    answered(tankpost_start(head, tags, UNITS + COUNTED, slots, UNITS, &offsets, free_slots, UNITS, (const tankpost_unit_row *)units,
-                            UNITS, (const tankpost_use_row *)uses, UNITS, &counts, &sums, (const tankpost_counted_row *)counted,
-                            COUNTED, rate, ceiling));
+    answered(tankpost_start_const(head, tags, UNITS + COUNTED, slots, UNITS, &offsets, free_slots, UNITS,
+                                  (const tankpost_unit_row *)units, UNITS, (const tankpost_use_row *)uses, UNITS, &counts, &sums,
+                                  (const tankpost_counted_row *)counted, COUNTED, rate, ceiling));
 }
 
 static void judge(struct tankpost_unit unit, uint64_t receptions, uint64_t bytes, uint64_t stamp) {

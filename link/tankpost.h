@@ -116,6 +116,19 @@ typedef double tankpost_sums[TANKPOST_DIMS][TANKPOST_BUCKETS];
 
 struct tankpost_answered tankpost_start(
     struct tankpost_head head,
+    uint16_t *tags, size_t tags_len,
+    uint32_t *slots, size_t slots_len,
+    tankpost_offsets *offsets,
+    uint32_t *free_slots, size_t free_slots_len,
+    tankpost_unit_row *units, size_t units_len,
+    tankpost_use_row *uses, size_t uses_len,
+    tankpost_counts *counts, tankpost_sums *sums,
+    tankpost_counted_row *counted, size_t counted_len,
+    const uint64_t rate[TANKPOST_DIMS], const uint64_t ceiling[TANKPOST_DIMS]);
+
+/* The same start, lent as const what it does not write. */
+struct tankpost_answered tankpost_start_const(
+    struct tankpost_head head,
     const uint16_t *tags, size_t tags_len,
     const uint32_t *slots, size_t slots_len,
     tankpost_offsets *offsets,

@@ -197,7 +197,7 @@ pub type Counts = [[u32; BUCKETS]; DIMS];
 pub type Sums = [[f64; BUCKETS]; DIMS];
 
 unsafe extern "C" {
-    fn tankpost_start(
+    fn tankpost_start_const(
         head: Head,
         tags: *const u16, tags_len: usize,
         slots: *const u32, slots_len: usize,
@@ -324,7 +324,7 @@ impl Shedder {
 
     pub fn start(&mut self, rate: [u64; DIMS], ceiling: [u64; DIMS]) -> u64 {
         let a = unsafe {
-            tankpost_start(
+            tankpost_start_const(
                 self.head,
                 self.tags.as_ptr(), self.tags.len(),
                 self.slots.as_ptr(), self.slots.len(),

@@ -23,9 +23,9 @@ static tankpost_counted_row counted[COUNTED];
 
 static int start(const uint64_t rate[2], const uint64_t ceiling[2]) {
     struct tankpost_answered a =
-        tankpost_start(head, tags, UNITS + COUNTED, slots, UNITS, &offsets, free_slots, UNITS, (const tankpost_unit_row *)units,
-                       UNITS, (const tankpost_use_row *)uses, UNITS, &counts, &sums, (const tankpost_counted_row *)counted,
-                       COUNTED, rate, ceiling);
+        tankpost_start_const(head, tags, UNITS + COUNTED, slots, UNITS, &offsets, free_slots, UNITS,
+                             (const tankpost_unit_row *)units, UNITS, (const tankpost_use_row *)uses, UNITS, &counts, &sums,
+                             (const tankpost_counted_row *)counted, COUNTED, rate, ceiling);
     head = a.head;
     return (int)a.answer;
 }

@@ -14,6 +14,9 @@ ghost use Rattle.meaning.specs.State.{state, state_with, after, told_as};
 ghost use Rattle.meaning.specs.Page as page;
 ghost use Rattle.tankpost.specs.Calls.{judged_as, reported, report_told};
 
+#[cfg(test)]
+mod tests;
+
 use codes::{Count, Decision, Level};
 use flow::DIMS;
 use head::Shedder;
@@ -37,9 +40,9 @@ pub struct Judged {
     pub head: Shedder,
 }
 
-// head::start: 0, or the number of the refusal. Offsets, free slots and histogram are written; the head given, and the memory, are left by a refused start.
+// head::start: 0, or the number of the refusal. Offsets, free slots and histogram are written, the rest is lent to be read; the head given, and the memory, are left by a refused start.
 #[unsafe(no_mangle)]
-pub extern "C" fn tankpost_start(
+pub extern "C" fn tankpost_start_const(
     head: Shedder,
     tags: &[u16],
     slots: &[u32],
@@ -74,6 +77,33 @@ pub extern "C" fn tankpost_start(
         answer: codes::answer_number(s.answer),
         head: s.head,
     }
+}
+
+// tankpost_start_const, of memory that is all lent to be written: what a start does not write comes back as it was.
+#[unsafe(no_mangle)]
+pub extern "C" fn tankpost_start(
+    head: Shedder,
+    tags: &mut [u16],
+    slots: &mut [u32],
+    offsets: &mut [u32; OFFSETS],
+    free: &mut [u32],
+    units: &mut [UnitRow],
+    uses: &mut [UseRow],
+    counts: &mut Counts,
+    sums: &mut Sums,
+    counted: &mut [SourceRow],
+    rate: &[u64; DIMS],
+    ceiling: &[u64; DIMS],
+) -> Answered
+    ensures { SameButNanBits
+        (after result.answer (state result.head tags.new slots.new offsets.new free.new units.new uses.new counts.new sums.new counted.new))
+        (told_as start_number
+        (page.start (state head tags.old slots.old offsets.old free.old units.old uses.old counts.old sums.old counted.old)
+        rate.now ceiling.now)) }
+{
+    tankpost_start_const(
+        head, tags, slots, offsets, free, units, uses, counts, sums, counted, rate, ceiling,
+    )
 }
 
 // judge::judge of the unit that the words give: the number of the refusal, or the verdict and the rule that decided it.

@@ -1,6 +1,6 @@
 use Rattle.std.proofs.Common.{◌≡◌, refl, rules}
 use Rattle.tankpost.proofs.Told.{start_tells}
-use Rattle.tankpost.proofs.tankpost_start.Goals as goal
+use Rattle.tankpost.proofs.tankpost_start_const.Goals as goal
 
 pub returns : goal.returns
 returns c =
