@@ -95,11 +95,16 @@ pub extern "C" fn tankpost_start(
     rate: &[u64; DIMS],
     ceiling: &[u64; DIMS],
 ) -> Answered
-    ensures { SameButNanBits
+    ensures told { SameButNanBits
         (after result.answer (state result.head tags.new slots.new offsets.new free.new units.new uses.new counts.new sums.new counted.new))
         (told_as start_number
         (page.start (state head tags.old slots.old offsets.old free.old units.old uses.old counts.old sums.old counted.old)
         rate.now ceiling.now)) }
+    ensures tags_stay { tags.new ≡ tags.old }
+    ensures slots_stay { slots.new ≡ slots.old }
+    ensures units_stay { units.new ≡ units.old }
+    ensures uses_stay { uses.new ≡ uses.old }
+    ensures counted_stay { counted.new ≡ counted.old }
 {
     tankpost_start_const(
         head, tags, slots, offsets, free, units, uses, counts, sums, counted, rate, ceiling,
